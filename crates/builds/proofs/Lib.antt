@@ -1,0 +1,6 @@
+pub mod Somes
+pub mod Firsts
+pub mod Orders
+pub mod Tables
+pub mod Marking
+pub mod Answering

@@ -1,0 +1,4 @@
+pub mod Builds
+pub mod Values
+pub mod Answers
+pub mod Laws

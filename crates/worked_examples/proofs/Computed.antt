@@ -2,11 +2,20 @@
 use mathlib.Core.Path.{_≡_, refl}
 use Rattle.builds.specs.Builds.{some-build}
 use Rattle.builds.specs.Answers.{occurs, mark-of, answer-of}
-use Rattle.worked_examples.specs.Examples.{Clause-examples, Worked-examples}
+use Rattle.diagram_theory.specs.Counts.{count-builds}
+use Rattle.worked_examples.specs.Examples.{Clause-examples, Diagram-examples, Group-examples, Worked-examples}
 
 pub clause-examples : Clause-examples
 unfolding some-build occurs mark-of answer-of
 clause-examples = record { twice = refl; both = refl; none = refl }
 
+pub diagram-examples : Diagram-examples
+unfolding some-build occurs mark-of answer-of count-builds
+diagram-examples = record { marked = refl; shifted = refl; variants = refl; lost = refl; jump = refl; jump-variants = refl }
+
+pub group-examples : Group-examples
+unfolding some-build occurs mark-of answer-of
+group-examples = record { rest = refl }
+
 pub worked : Worked-examples
-worked = record { clauses = clause-examples }
+worked = record { clauses = clause-examples; diagrams = diagram-examples; groups = group-examples }

@@ -1,0 +1,13 @@
+pub mod Within
+pub mod Steps
+pub mod Jumps
+pub mod Columns
+pub mod Reached
+pub mod Lives
+pub mod Splices
+pub mod Turns
+pub mod Tables
+pub mod Freeing
+pub mod Counting
+pub mod Paths
+pub mod Reading

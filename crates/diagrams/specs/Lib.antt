@@ -1,0 +1,7 @@
+pub mod Rows
+pub mod Walk
+pub mod Reach
+pub mod Roots
+pub mod Causes
+pub mod Reading
+pub mod Filled

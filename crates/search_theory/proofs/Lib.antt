@@ -1,0 +1,14 @@
+pub mod Sound
+pub mod Bound
+pub mod Picks
+pub mod Banks
+pub mod Dense
+pub mod Denial
+pub mod Reading
+pub mod Backs
+pub mod Answering
+pub mod Kept
+pub mod Ends
+pub mod Law
+pub mod Doing
+pub mod Witness

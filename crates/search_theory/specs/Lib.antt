@@ -1,0 +1,10 @@
+pub mod Orders
+pub mod Trails
+pub mod Searches
+pub mod Calls
+pub mod Runs
+pub mod Law
+pub mod Held
+pub mod Denials
+pub mod Backed
+pub mod Kept

@@ -1,4 +1,4 @@
 // Tests of the layers, over a small bank of their own.
 #[cfg(test)]
 mod tests;
-pub mod wants;
+mod wants;

@@ -1,19 +1,18 @@
 -- The first item that passes a test, and what refuses an opening.
 use mathlib.Core.Path.{_≡_, refl, sym, _∙_, ap}
 use mathlib.Core.List.{List, [], _∷_, map}
-use mathlib.Core.Bool.{Bool, true, false, cond, not, _&&_, _||_}
+use mathlib.Core.Bool.{Bool, true, false, cond, not, _&&_}
 use mathlib.Core.Logic.{_⊎_, inl, inr}
 use Prim.Native.Nat.{ℕ, zero, suc, _≤_, _<_, _+_}
 use native.Mathlib.Omega.{arith}
 use lib.ListN.{length, getD, drop}
 use lib.Dec.{leb, ltb}
 use denote.Ref.{RefT, now}
-use Rattle.std.specs.declared.option.Option.{Option}
 use Rattle.std.specs.declared.option.Option.the-variants.{Some, None}
-use Rattle.std.proofs.shelf.Tests.{cond-true, cond-false, cases-bool, cases-lt, both-ways, or-parts, or-left, leb-false, ltb-false, not-false, and-from, and-left, and-right, le-leb, lt-leb}
+use Rattle.std.proofs.shelf.Tests.{cond-true, cond-false, cases-bool, cases-lt, both-ways, or-parts, or-left, ltb-false, not-false, and-from, and-left, and-right, le-leb, lt-leb}
 use Rattle.std.proofs.shelf.Lists.{length-map, getD-map, at-drop-more, at-drop-all}
 use Rattle.clauses.specs.Literals.{within}
-use Rattle.clauses.specs.Opening.{too-many, first-item, fault, or-next, Opens, open-cause}
+use Rattle.clauses.specs.Opening.{too-many, first-item, fault, Opens, open-cause}
 
 -- clauses that are lent, as lists
 abbrev pub lists : List (RefT (List ℕ)) → List (List ℕ)

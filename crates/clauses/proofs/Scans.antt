@@ -1,17 +1,17 @@
 -- A scanned clause says all that the builds that fit say.
 use mathlib.Core.Path.{_≡_, refl, sym, _∙_, ap}
 use mathlib.Core.List.{List, [], _∷_, _++_}
-use mathlib.Core.Bool.{Bool, true, false, cond, not, _&&_, _||_}
+use mathlib.Core.Bool.{Bool, true, false, not, _||_}
 use mathlib.Core.Logic.{_⊎_, inl, inr, _≢_}
-use Prim.Native.Nat.{ℕ, zero, suc, _≤_, _<_, _/_, _%_}
+use Prim.Native.Nat.{ℕ, _≤_, _<_, _/_, _%_}
 use native.Mathlib.Omega.{arith}
 use lib.ListN.{length, getD, set, take, length-set}
-use lib.Dec.{eqb, ltb}
+use lib.Dec.{ltb}
 use Rattle.std.proofs.shelf.Tests.{cases-eq, cases-lt, both-ways, and-parts, ltb-true, eq-eqb, ne-eqb, lt-ltb, le-ltb, or-left, or-right}
 use Rattle.std.proofs.shelf.Lists.{getD-set-same, getD-set-other, getD-default, getD-take, append-nil, append-assoc, length-take-le}
 use Rattle.builds.specs.Builds.{Build, bit, same}
 use Rattle.builds.specs.Values.{num, bits, up-to, fits}
-use Rattle.builds.specs.Answers.{Said, dead, live, Fitting, mark-of, answer-of}
+use Rattle.builds.specs.Answers.{Fitting, mark-of, answer-of}
 use Rattle.builds.proofs.Tables.{up-to-at, fits-at, bits-fit-any, length-bits, bit-bits, fits-set}
 use Rattle.builds.proofs.Marking.{same-true, mark-both, mark-only, answer-live, answer-dead}
 use Rattle.bank.proofs.Exactness.{valued}
@@ -74,7 +74,8 @@ other l y e k = num-not (wants l) (l % 2) (num-wants l) y e k
     num-not false n e y d k = omega arith
 
 module _ (w : ℕ) (v : List ℕ) (sized : length v ≡ w) (small : up-to 2 v ≡ true) where
-  abbrev Open : ℕ → Type 0
+  -- the option has no value yet
+  abbrev pub Open : ℕ → Type 0
   Open o = (o < w) × (getD v o 0 ≡ 2)
 
   pub record Agrees (b : Build) : Type 0 where
@@ -218,9 +219,13 @@ module _ (w : ℕ) (v : List ℕ) (sized : length v ≡ w) (small : up-to 2 v �
   pub scan-says : (ls : List Literal) → within w (numbers ls) ≡ true → answer-of w (clause-meets (numbers ls)) v ≡ clause-says v (scanned v Nothing ls)
   scan-says ls h = says-told (numbers ls) (scanned v Nothing ls) (scan-told [] ls Nothing h (λ b l f. refl))
 
-  -- the one literal that is left is of an option of the table
-  pub scan-one : (ls : List Literal) (l : Literal) → within w (numbers ls) ≡ true → scanned v Nothing ls ≡ One l → l .number / 2 < w
-  scan-one ls l h e = rw e at (scan-told [] ls Nothing h (λ b n f. refl)) .0 .0
+  -- the one literal that is left is of an open option of the table
+  pub scan-one : (ls : List Literal) (l : Literal) → within w (numbers ls) ≡ true → scanned v Nothing ls ≡ One l → Open (l .number / 2)
+  scan-one ls l h e = rw e at (scan-told [] ls Nothing h (λ b n f. refl)) .0
+
+-- what is left of a clause says what the clause says
+pub left-says : (v : List ℕ) (ls : List Literal) (s : Left) → up-to 2 v ≡ true → within (length v) (numbers ls) ≡ true → s ≡ scanned v Nothing ls → answer-of (length v) (clause-meets (numbers ls)) v ≡ clause-says v s
+left-says v ls s u h e = scan-says (length v) v refl u ls h ∙ ap (clause-says v) (sym e)
 
 -- a scan of the first w values sees what a scan of the whole table sees
 scan-front : (w : ℕ) (v : List ℕ) (ls : List Literal) (s : Left) → within w (numbers ls) ≡ true → scanned (take w v) s ls ≡ scanned v s ls
@@ -232,3 +237,9 @@ scan-front w v (l ∷ ls) s h =
 -- what a scan of a table says of the first w options
 pub scan-front-says : (v : List ℕ) (ls : List Literal) (w : ℕ) → within w (numbers ls) ≡ true → w ≤ length v → up-to 2 (take w v) ≡ true → answer-of w (clause-meets (numbers ls)) (take w v) ≡ clause-says (take w v) (scanned v Nothing ls)
 scan-front-says v ls w h l u = scan-says w (take w v) (length-take-le w v l) u ls h ∙ ap (clause-says (take w v)) (scan-front w v ls Nothing h)
+
+-- the one literal that a scan leaves is of one of the first w options, and that is open
+pub scan-front-one : (v : List ℕ) (ls : List Literal) (w : ℕ) (l : Literal) → within w (numbers ls) ≡ true → w ≤ length v → up-to 2 (take w v) ≡ true → scanned v Nothing ls ≡ One l → (l .number / 2 < w) × (getD v (l .number / 2) 0 ≡ 2)
+scan-front-one v ls w l h k u e =
+    let o = scan-one w (take w v) (length-take-le w v k) u ls l h (scan-front w v ls Nothing h ∙ e) in
+    (o .0, sym (getD-take w v (l .number / 2) 0 (o .0)) ∙ o .1)

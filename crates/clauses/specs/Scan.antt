@@ -1,6 +1,6 @@
 -- How a clause is scanned under a values table, and what is said of it then.
 use mathlib.Core.List.{List, [], _∷_}
-use mathlib.Core.Bool.{Bool, true, false, cond}
+use mathlib.Core.Bool.{cond}
 use Prim.Native.Nat.{ℕ, _/_, _%_}
 use lib.ListN.{getD, set}
 use lib.Dec.{eqb, ltb}

@@ -3,7 +3,6 @@ use mathlib.Core.List.{List, [], _∷_, map}
 use mathlib.Core.Bool.{Bool, true, _&&_}
 use Prim.Native.Nat.{ℕ}
 use lib.ListN.{take}
-use Rattle.clauses.specs.declared.literal.Literal.{Literal}
 use Rattle.clauses.specs.declared.clause.Clause.{Clause}
 use Rattle.clauses.specs.Literals.{numbers, within}
 

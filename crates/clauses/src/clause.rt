@@ -1,8 +1,7 @@
 // One clause of the table: up to 32 literals in a place of fixed size, so that no call can fail for want of memory.
 ghost use mathlib.Core.Path.{_≡_};
-ghost use mathlib.Core.Bool.{Bool, true};
-ghost use mathlib.Core.List.{List};
-ghost use Prim.Native.Nat.{ℕ, _≤_};
+ghost use mathlib.Core.Bool.{true};
+ghost use Prim.Native.Nat.{_≤_};
 ghost use lib.ListN.{length, take};
 ghost use Rattle.clauses.specs.Literals.{numbers, within};
 use crate::literal::Literal;

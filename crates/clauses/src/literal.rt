@@ -1,6 +1,6 @@
 // A literal: an option and the value that is wanted of it, in one number, as dealers write it.
 ghost use mathlib.Core.Path.{_≡_};
-ghost use Prim.Native.Nat.{ℕ, _/_, _%_};
+ghost use Prim.Native.Nat.{_/_, _%_};
 
 // The number is 2 × option + wanted value.
 #[derive(Clone, Copy, PartialEq, Eq, Debug, Drop)]

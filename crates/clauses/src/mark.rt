@@ -1,9 +1,7 @@
 // Writes down what a clause says of a values table: one scan, and one pass over the options.
 ghost use mathlib.Core.Path.{_≡_};
-ghost use mathlib.Core.Bool.{Bool, true};
-ghost use mathlib.Core.List.{List, _++_};
-ghost use Prim.Native.Nat.{ℕ, _/_, _%_};
-ghost use lib.ListN.{length, set, drop};
+ghost use mathlib.Core.Bool.{true};
+ghost use lib.ListN.{length};
 ghost use Rattle.builds.specs.Values.{up-to};
 ghost use Rattle.builds.specs.Answers.{answer-of};
 ghost use Rattle.bank.specs.Marking.{heard, noted};

@@ -1,9 +1,6 @@
 // The clause bank behind the interface of every rule bank: each clause is a rule, and its marks are exact.
 ghost use mathlib.Core.Path.{_≡_};
-ghost use mathlib.Core.Bool.{Bool};
-ghost use mathlib.Core.List.{List};
 ghost use Prim.Native.Nat.{ℕ, _<_};
-ghost use lib.ListN.{length};
 ghost use Rattle.option_set.specs.Sets.{member};
 ghost use Rattle.clauses.specs.Literals.{numbers, names};
 ghost use Rattle.clauses.specs.Table.{rules-of};

@@ -1,7 +1,6 @@
 // Scans a clause under a values table. The kernel of the clause bank, and of learnt clauses, which no bank holds.
 ghost use mathlib.Core.Path.{_≡_};
-ghost use mathlib.Core.Bool.{Bool, true};
-ghost use mathlib.Core.List.{List};
+ghost use mathlib.Core.Bool.{true};
 ghost use Prim.Native.Nat.{ℕ, _≤_};
 ghost use lib.ListN.{length, getD, take};
 ghost use Rattle.builds.specs.Values.{up-to};

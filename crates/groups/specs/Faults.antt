@@ -32,7 +32,7 @@ abbrev pub first-with : ℕ → TableCause → ℕ → List Rule → Option ℕ
 first-with w c i [] = None
 first-with w c i (g ∷ gs) = cond (has-cause w c i g) (Some i) (first-with w c (i + 1) gs)
 
--- what is wrong with a cause at that item, or else what is wrong otherwise
+-- the cause at the item that has it, or, where none has it, what comes next
 abbrev pub or-next : TableCause → Option ℕ → Option Located → Option Located
 or-next c (Some i) next = Some (record { number = cause-number c; item = i })
 or-next c None next = next
@@ -51,7 +51,7 @@ causes = TooMany ∷ misfits
 
 -- why a whole table is refused, if it is
 unfoldable pub open-cause : ℕ → List Rule → Option Located
-open-cause w gs = cond (leb 1 w && leb w 128) (first-cause w causes 0 gs) (Some (record { number = 11; item = 0 }))
+open-cause w gs = cond (leb 1 w && leb w 128) (first-cause w causes 0 gs) (Some (record { number = cause-number BadWidth; item = 0 }))
 
 -- why one group more is refused by a table of w options and n groups, if it is
 unfoldable pub add-cause : ℕ → ℕ → Rule → Option Located
@@ -59,7 +59,7 @@ add-cause w n g = first-cause w causes n (g ∷ [])
 
 -- why a table of n groups has no room for a group of k options, if it has none
 abbrev pub room-cause : ℕ → ℕ → Option Located
-room-cause n k = cond (leb 64 n || ltb 32 k) (Some (record { number = 12; item = n })) None
+room-cause n k = cond (leb 64 n || ltb 32 k) (Some (record { number = cause-number TooMany; item = n })) None
 
 -- a fault that may be absent, by its number and item
 abbrev pub located-fault : Option TableFault → Option Located

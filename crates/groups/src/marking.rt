@@ -60,6 +60,7 @@ pub(crate) fn mark_group(
     if taken > hi || possible < lo {
         return Answer::Dead;
     }
+    // No more may be taken, or all that can be taken are needed: both hold only where no option of the group is open.
     let full = taken == hi;
     let scarce = possible == lo;
     marks.copy_from_slice(values);

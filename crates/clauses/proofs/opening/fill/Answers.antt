@@ -1,10 +1,10 @@
-use mathlib.Core.Path.{_≡_, refl, sym, ap, _∙_}
-use mathlib.Core.List.{List, [], _∷_, _++_}
-use Prim.Native.Nat.{ℕ, _<_}
+use mathlib.Core.Path.{_≡_, sym, ap, _∙_}
+use mathlib.Core.List.{[], _∷_, _++_}
+use Prim.Native.Nat.{_<_}
 use native.Mathlib.Omega.{arith}
-use lib.ListN.{length, getD, take}
+use lib.ListN.{length, take}
 use Rattle.std.proofs.shelf.Lists.{length-map, take-more, take-all}
-use Rattle.clauses.specs.Table.{rules-of, numbers-of}
+use Rattle.clauses.specs.Table.{numbers-of}
 use Rattle.clauses.proofs.Items.{lists, lent-at}
 use Rattle.clauses.proofs.Tables.{no-rules, rules-push}
 use Rattle.clauses.proofs.opening.fill.Needs as need

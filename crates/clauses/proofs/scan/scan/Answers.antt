@@ -1,9 +1,8 @@
-use mathlib.Core.Path.{_≡_, sym, ap, _∙_}
+use mathlib.Core.Path.{sym, ap, _∙_}
 use native.Mathlib.Omega.{arith}
-use Prim.Native.Nat.{_+_, _≤_}
-use lib.ListN.{drop, take, length}
+use Prim.Native.Nat.{_+_}
+use lib.ListN.{drop, take}
 use Rattle.std.proofs.shelf.Lists.{at-drop-more, at-drop-all}
-use Rattle.clauses.specs.declared.left.Left.the-variants.{Nothing}
 use Rattle.clauses.specs.Scan.{scanned, clause-says}
 use Rattle.clauses.proofs.Scans.{scan-front-says}
 use Rattle.clauses.proofs.scan.scan.Needs as need

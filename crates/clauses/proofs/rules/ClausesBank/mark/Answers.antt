@@ -1,10 +1,10 @@
-use mathlib.Core.Path.{_≡_, refl, sym, ap, _∙_}
-use mathlib.Core.List.{List, []}
-use Prim.Native.Nat.{ℕ, _-_}
+use mathlib.Core.Path.{_≡_, sym, ap, _∙_}
+use mathlib.Core.List.{[]}
+use Prim.Native.Nat.{_-_}
 use native.Mathlib.Omega.{arith}
 use lib.ListN.{length, getD, take}
 use Rattle.std.proofs.shelf.Lists.{length-take-le}
-use Rattle.bank.specs.Marking.{mark-cause, Ready}
+use Rattle.bank.specs.Marking.{mark-cause}
 use Rattle.bank.proofs.Exactness.{exact-marked}
 use Rattle.clauses.specs.Clause.{clause-meets}
 use Rattle.clauses.specs.Literals.{numbers, within}

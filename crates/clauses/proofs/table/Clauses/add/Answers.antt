@@ -1,7 +1,7 @@
 use mathlib.Core.Path.{_≡_, refl, sym, ap, _∙_}
-use mathlib.Core.Bool.{true, false}
-use mathlib.Core.List.{List, [], _∷_, _++_}
-use Prim.Native.Nat.{ℕ, _<_, _+_}
+use mathlib.Core.Bool.{false}
+use mathlib.Core.List.{[], _∷_, _++_}
+use Prim.Native.Nat.{_<_, _+_}
 use native.Mathlib.Omega.{arith}
 use lib.ListN.{length}
 use Rattle.std.specs.declared.result.Result.the-variants.{Err}
@@ -9,9 +9,8 @@ use Rattle.std.proofs.shelf.Lists.{length-push}
 use Rattle.std.proofs.shelf.Tests.{both-ways}
 use Rattle.std.proofs.shelf.Results.{err-from-errBy}
 use Rattle.bank.specs.Numbers.{located, located-of}
-use Rattle.clauses.specs.Literals.{within}
-use Rattle.clauses.specs.Table.{rules-of, all-within, numbers-of}
-use Rattle.clauses.specs.Opening.{too-many, opened, or-kept}
+use Rattle.clauses.specs.Table.{rules-of}
+use Rattle.clauses.specs.Opening.{opened}
 use Rattle.clauses.proofs.Literals.{within-more, all-within-push}
 use Rattle.clauses.proofs.Tables.{rules-push}
 use Rattle.clauses.proofs.Adds.{no-room, has-room, room-left, add-full, add-outside, add-fits}

@@ -1,6 +1,6 @@
-use mathlib.Core.Path.{_≡_, refl, ap, _∙_}
+use mathlib.Core.Path.{refl}
 use native.Mathlib.Omega.{arith}
-use Rattle.clauses.specs.Table.{rules-of, all-within}
+use Rattle.clauses.specs.Table.{rules-of}
 use Rattle.clauses.proofs.table.Clauses.empty.Needs as need
 
 pub ghost-result : need.ghost-result

@@ -103,17 +103,17 @@ module _ (w : ℕ) (v : List ℕ) (sized : length v ≡ w) (small : up-to 2 v �
   two-more : (o : ℕ) (x : Bool) (k : ℕ) (y : Bool) → Open o → Open k → k ≢ o → (b : Build) × Agrees b × (bit b o ≡ x) × (bit b k ≡ y)
   two-more o x k y h i ne =
       let l : o < length v = omega arith in
-      let l2 : k < length v = omega arith in
+      let in-table : k < length v = omega arith in
       let en : o ≢ k = λ e. ne (sym e) in
       let u = set v o (num x) in
-      let l3 : k < length u = simp length-set l2 in
+      let still-in : k < length u = simp length-set in-table in
       let t = set u k (num y) in
       let ok : getD u k 0 ≡ 2 = getD-set-other v o k (num x) 0 ne ∙ i .1 in
       let ox : getD t o 0 ≡ num x = getD-set-other u k o (num y) 0 en ∙ getD-set-same v o (num x) 0 l in (
         bits t,
         record { long = length-bits t ∙ length-set u k (num y) ∙ length-set v o (num x) ∙ sized; fit = fits-set v o (num x) _ (h .1) (fits-set u k (num y) _ ok (bits-fit-any t)) },
         bit-bits t o x (simp length-set l) ox,
-        bit-bits t k y (simp length-set l2) (getD-set-same u k (num y) 0 l3),
+        bit-bits t k y (simp length-set in-table) (getD-set-same u k (num y) 0 still-in),
       )
 
   meeting : (ls : List ℕ) (b : Build) → Agrees b → clause-meets ls b ≡ true → Fitting w (clause-meets ls) v b

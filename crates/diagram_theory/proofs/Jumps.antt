@@ -27,7 +27,7 @@ jumps-more k v j to x y e h is =
 pub jumps-turn : {S : Type 0} (k : Weights S) (j to : ℕ) (x y lo hi sum new : S) → 0 < j → j ≤ to → to ≤ length (k .lows) → to ≤ length (k .highs)
     → lo ≡ getD (k .lows) (j - 1) lo → hi ≡ getD (k .highs) (j - 1) hi → sum ≡ k .plus lo hi → new ≡ k .times sum y
     → y ≡ jumps k j (to - j) x → new ≡ jumps k (j - 1) (to - (j - 1)) x
-jumps-turn k j to x y lo hi sum new pos h l0 l1 elo ehi es en ey =
+jumps-turn k j to x y lo hi sum new pos h low-in high-in elo ehi es en ey =
     let lo-is : lo ≡ getD (k .lows) (j - 1) (k .one) = getD-read (k .lows) (j - 1) lo (omega arith) elo (k .one) in
     let hi-is : hi ≡ getD (k .highs) (j - 1) (k .one) = getD-read (k .highs) (j - 1) hi (omega arith) ehi (k .one) in
     let made : new ≡ k .times (k .plus (weight k (j - 1) false) (weight k (j - 1) true)) y = cc in

@@ -81,34 +81,14 @@ pub(crate) fn descend(
     free(ones, high, 0, to);
     for r in (0..bank.used).rev() {
         let row = bank.rows[r];
-        let option = row.option as usize;
-        let low_node = row.low as usize;
-        let high_node = row.high as usize;
-        let by_low = reached[r + 2] & (low[option] & live[low_node]);
-        let by_high = reached[r + 2] & (high[option] & live[high_node]);
-        zeros[option] = zeros[option] | by_low;
-        ones[option] = ones[option] | by_high;
-        follow(
-            bank,
-            low,
-            high,
-            by_low,
-            option,
-            low_node,
-            reached,
-            zeros,
-            ones,
-        );
-        follow(
-            bank,
-            low,
-            high,
-            by_high,
-            option,
-            high_node,
-            reached,
-            zeros,
-            ones,
-        );
+        let at = row.option as usize;
+        let to_low = row.low as usize;
+        let to_high = row.high as usize;
+        let by_low = reached[r + 2] & (low[at] & live[to_low]);
+        let by_high = reached[r + 2] & (high[at] & live[to_high]);
+        zeros[at] = zeros[at] | by_low;
+        ones[at] = ones[at] | by_high;
+        follow(bank, low, high, by_low, at, to_low, reached, zeros, ones);
+        follow(bank, low, high, by_high, at, to_high, reached, zeros, ones);
     }
 }

@@ -1,4 +1,4 @@
--- A sweep over the weights of a values table is the sum over the fitting builds: whether there is one, and how many there are.
+-- A sweep over the weights that a values table gives is the sum over the fitting builds: over numbers, how many there are.
 use mathlib.Core.Path.{_≡_, refl, sym, ap, subst, _∙_}
 use mathlib.Core.List.{List, [], _∷_}
 use mathlib.Core.Bool.{Bool, true, false, cond, _&&_}
@@ -14,10 +14,9 @@ use Rattle.builds.specs.Values.{fits, allows}
 use Rattle.diagrams.specs.declared.row.Row.{Row}
 use Rattle.diagrams.specs.Rows.{option-of, Lawful}
 use Rattle.diagrams.specs.Walk.{ends, meets-root}
-use Rattle.diagram_theory.specs.Semirings.{Laws, Weights, over-builds, weight, weigh, bit-from, sum-from, node-sum}
+use Rattle.diagram_theory.specs.Semirings.{Laws, Weights, over-builds, weight, weigh, bit-from, sum-from, node-sum, sweep-of}
 use Rattle.diagram_theory.specs.Models.{below-64, sum-64, modular, counts-64}
 use Rattle.diagram_theory.specs.Counts.{count-builds, opens, node-count}
-use Rattle.diagrams.proofs.Walks.{ends-agree}
 use Rattle.diagram_theory.proofs.Within.{option-below}
 use Rattle.diagram_theory.proofs.Freeing.{allows-false, allows-true}
 
@@ -71,14 +70,10 @@ module _ {S : Type 0} (valid : S → Type 0) (k : Weights S) (laws : Laws valid 
     sum-fits-from n u h = same-over-long (k .plus) (w - u) _ _ (term-fits n u h)
 
     -- over whole builds
-    pub sum-fits : (used : ℕ) → Lawful w rows used → (root : ℕ) → root < used + 2
-        → sum-from k w rows 0 root ≡ over-builds (k .plus) w (λ t. whether (fits v t && meets-root rows root t))
-    sum-fits used ok root h =
-        let z : w - 0 ≡ w = omega arith in
-        sum-fits-from root 0 (omega arith)
-        ∙ ap (λ m. over-builds (k .plus) m (λ t. whether (fits (drop 0 v) t && ends rows root (bit-from 0 t)))) z
-        ∙ same-over-long (k .plus) w (λ t. whether (fits (drop 0 v) t && ends rows root (bit-from 0 t))) (λ t. whether (fits v t && meets-root rows root t))
-        (λ t l. ap (λ x. whether (fits v t && x)) (ends-agree w rows used ok root (bit-from 0 t) (bit t) h (λ o p. let q : o - 0 ≡ o = omega arith in ap (λ i. bit t i) q)))
+    pub sweep-fits : (root : ℕ) → sweep-of k w rows root ≡ over-builds (k .plus) w (λ t. whether (fits v t && meets-root rows root t))
+    sweep-fits root = same-over-long (k .plus) w _ _
+        (λ t l. ap (λ x. cond (meets-root rows root t) x (k .zero)) (weigh-fits v t 0 (sized ∙ sym l) (λ i z p. let q : 0 + i ≡ i = omega arith in ap (λ j. weight k j z) q ∙ e i z (omega arith)))
+        ∙ chosen (meets-root rows root t) (fits v t))
 
 -- numbers modulo 2^64
 small : (x : Bool) → cond x 1 0 ≡ cond x 1 0 % 2 ^ 64
@@ -180,9 +175,9 @@ weight-of k w v el eh o false h = el o (k .one) h ∙ turned (eqb (getD v o 0) 1
 -- the sweep over numbers that a values table of at most 62 open options gives
 module _ (w : ℕ) (rows : List Row) (used : ℕ) (ok : Lawful w rows used) (v : List ℕ) (sized : length v ≡ w) (few : opens v ≤ 62)
     (lows highs : List ℕ) (e : (o : ℕ) (z : Bool) → o < w → weight (counts-64 lows highs) o z ≡ cond (allows (getD v o 0) z) 1 0) where
-  pub root-count : (root : ℕ) → root < used + 2 → sum-from (counts-64 lows highs) w rows 0 root ≡ count-builds w (λ β. fits v β && meets-root rows root β)
-  root-count root h =
-      sum-fits below-64 (counts-64 lows highs) modular w rows v sized e used ok root h
+  pub root-count : (root : ℕ) → sweep-of (counts-64 lows highs) w rows root ≡ count-builds w (λ β. fits v β && meets-root rows root β)
+  root-count root =
+      sweep-fits below-64 (counts-64 lows highs) modular w rows v sized e root
       ∙ over-count w (λ β. fits v β && meets-root rows root β)
       ∙ count-small v w (meets-root rows root) sized few
 

@@ -1,4 +1,4 @@
--- Single writes, as Marked and Freed say them.
+-- Single writes, as `Marked` and `Freed` say them.
 use mathlib.Core.Path.{_≡_, refl, sym, ap, subst, _∙_}
 use mathlib.Core.List.{List}
 use mathlib.Core.Logic.{inl, inr, _≢_}

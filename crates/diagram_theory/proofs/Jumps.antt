@@ -1,4 +1,4 @@
--- Jumped options.
+-- Jumped options are free: each puts the sum of its two weights in front.
 use mathlib.Core.Path.{_≡_, refl, sym, ap, _∙_}
 use mathlib.Core.List.{List}
 use mathlib.Core.Bool.{true, false}

@@ -1,12 +1,13 @@
 -- Live nodes, by the bits that show it.
 use mathlib.Core.Path.{_≡_, refl, sym, ap, subst, _∙_}
 use mathlib.Core.List.{List, [], _∷_}
-use mathlib.Core.Logic.{inl, inr}
 use mathlib.Core.Bool.{Bool, true, false, cond, _||_}
 use Prim.Native.Nat.{ℕ, zero, suc, _+_, _-_, _<_, _≤_}
 use native.Mathlib.Omega.{arith}
 use lib.ListN.{length, getD}
-use Rattle.std.proofs.shelf.Tests.{or-cases, or-left, or-right, and-parts, and-from, both-ways}
+use Rattle.std.proofs.shelf.Tests.{and-parts, and-from, both-ways}
+use Rattle.builds.specs.Builds.{Build, some-build}
+use Rattle.builds.proofs.Somes.{found, finds}
 use Rattle.diagrams.specs.declared.row.Row.{Row}
 use Rattle.diagrams.specs.Rows.{option-of, Lawful}
 use Rattle.diagrams.specs.Walk.{ends}
@@ -15,20 +16,13 @@ use Rattle.diagram_theory.specs.Models.{yes-no}
 use Rattle.diagram_theory.proofs.Reached.{can}
 use Rattle.diagram_theory.proofs.Within.{ends-within}
 
-pub found-over : (m : ℕ) (f : List Bool → Bool) → over-builds _||_ m f ≡ true → (t : List Bool) × (length t ≡ m) × (f t ≡ true)
-found-over zero f h = ([], refl, h)
-found-over (suc m) f h =
-    elim (or-cases (over-builds _||_ m (λ b. f (false ∷ b))) (over-builds _||_ m (λ b. f (true ∷ b))) h) [
-      | inl e ↦ let g = found-over m (λ b. f (false ∷ b)) e in (false ∷ g .0, ap suc (g .1), g .2)
-      | inr e ↦ let g = found-over m (λ b. f (true ∷ b)) e in (true ∷ g .0, ap suc (g .1), g .2)
-    ]
-
-pub finds-over : (m : ℕ) (f : List Bool → Bool) (t : List Bool) → length t ≡ m → f t ≡ true → over-builds _||_ m f ≡ true
-finds-over zero f [] l h = h
-finds-over zero f (x ∷ t) l h = absurd (omega arith)
-finds-over (suc m) f [] l h = absurd (omega arith)
-finds-over (suc m) f (false ∷ t) l h = or-left _ _ (finds-over m (λ b. f (false ∷ b)) t (omega arith) h)
-finds-over (suc m) f (true ∷ t) l h = or-right _ _ (finds-over m (λ b. f (true ∷ b)) t (omega arith) h)
+-- over yes and no, the sum over builds says whether there is one
+over-some : (m : ℕ) (f : Build → Bool) → over-builds _||_ m f ≡ some-build m f
+unfolding some-build
+over-some zero f = refl
+over-some (suc m) f =
+    ap (λ x. x || over-builds _||_ m (λ b. f (true ∷ b))) (over-some m (λ b. f (false ∷ b)))
+    ∙ ap (λ x. some-build m (λ b. f (false ∷ b)) || x) (over-some m (λ b. f (true ∷ b)))
 
 -- the bits of the options v .. v + m - 1 as a list
 abbrev pub spell : (ℕ → Bool) → ℕ → ℕ → List Bool
@@ -74,7 +68,7 @@ module _ (w : ℕ) (rows : List Row) (used : ℕ) (ok : Lawful w rows used) (low
   pub live-has : (v n : ℕ) → v ≤ w → sum-from (yes-no lows highs) w rows v n ≡ true
       → (x : ℕ → Bool) × From v x × (ends rows n x ≡ true)
   live-has v n u h =
-      let g = found-over (w - v) (λ t. cond (ends rows n (bit-from v t)) (weigh (yes-no lows highs) v t) false) h in
+      let g = found (w - v) (λ t. cond (ends rows n (bit-from v t)) (weigh (yes-no lows highs) v t) false) (sym (over-some (w - v) _) ∙ h) in
       let p = cond-both (ends rows n (bit-from v (g .0))) (weigh (yes-no lows highs) v (g .0)) (g .2) in
       let l : length (g .0) ≡ w - v = g .1 in (
         (bit-from v (g .0)),
@@ -86,7 +80,7 @@ module _ (w : ℕ) (rows : List Row) (used : ℕ) (ok : Lawful w rows used) (low
   pub has-live : (v n : ℕ) → n < used + 2 → v ≤ w → v ≤ option-of w rows n → (x : ℕ → Bool) → From v x → ends rows n x ≡ true
       → sum-from (yes-no lows highs) w rows v n ≡ true
   has-live v n h u a x f e =
-      finds-over (w - v) (λ t. cond (ends rows n (bit-from v t)) (weigh (yes-no lows highs) v t) false) (spell x v (w - v)) (length-spell x v (w - v))
+      over-some (w - v) _ ∙ finds (w - v) (λ t. cond (ends rows n (bit-from v t)) (weigh (yes-no lows highs) v t) false) (spell x v (w - v)) (length-spell x v (w - v))
       (cond-from (ends rows n (λ o. getD (spell x v (w - v)) (o - v) false)) (weigh (yes-no lows highs) v (spell x v (w - v)))
       (ends-within w rows used ok n (λ o. getD (spell x v (w - v)) (o - v) false) x h (λ o p q. getD-spell x v (w - v) (o - v) o (omega arith) (omega arith)) ∙ e)
       (weigh-spell x v (w - v) (λ o p q. f o p (omega arith))))

@@ -1,4 +1,4 @@
--- What it means that a node is reached and a bit is seen.
+-- What it means that a node is reached and that an option is seen with a value, by the fitting builds that meet a root.
 use mathlib.Core.Path.{_≡_}
 use mathlib.Core.List.{List}
 use mathlib.Core.Bool.{Bool, true, false, cond}

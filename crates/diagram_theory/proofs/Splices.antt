@@ -1,4 +1,4 @@
--- Reached nodes and seen bits of one root.
+-- Builds put together from two: the way to a node from one, the way on from another.
 use mathlib.Core.Path.{_≡_, refl, sym, ap, subst, _∙_}
 use mathlib.Core.List.{List}
 use mathlib.Core.Logic.{inl, inr, _≢_}

@@ -1,14 +1,15 @@
--- One step of a node's sum.
+-- A node's sum, from the sums of its children.
 use mathlib.Core.Path.{_≡_, refl, sym, ap, _∙_}
 use mathlib.Core.List.{List, [], _∷_}
 use mathlib.Core.Bool.{Bool, true, false, cond}
 use Prim.Native.Nat.{ℕ, zero, suc, _+_, _-_, _<_, _≤_}
 use native.Mathlib.Omega.{arith}
 use lib.ListN.{getD}
+use Rattle.builds.specs.Builds.{bit}
 use Rattle.diagrams.specs.declared.row.Row.{Row}
 use Rattle.diagrams.specs.Rows.{row-at, option-of, Lawful}
-use Rattle.diagrams.specs.Walk.{ends}
-use Rattle.diagram_theory.specs.Semirings.{bit-from, Laws, Weights, over-builds, weight, weigh, sum-from, node-sum}
+use Rattle.diagrams.specs.Walk.{ends, meets-root}
+use Rattle.diagram_theory.specs.Semirings.{bit-from, Laws, Weights, over-builds, weight, weigh, sum-from, node-sum, sweep-of}
 use Rattle.diagrams.proofs.Walks.{ends-step, ends-agree}
 
 -- equal at each build: equal sums
@@ -21,6 +22,14 @@ same-over plus (suc k) f g e =
 -- a bit of a list that begins at an option v, read from v + 1 on
 read-on : (b : Bool) (t : List Bool) (v o : ℕ) → suc v ≤ o → getD (b ∷ t) (o - v) false ≡ getD t (o - suc v) false
 read-on b t v o h = let e : o - v ≡ suc (o - suc v) = omega arith in rw e refl
+
+-- the sum over the options from 0 on is the sweep
+pub whole-sum : {S : Type 0} (k : Weights S) (w : ℕ) (rows : List Row) (used : ℕ) → Lawful w rows used → (root : ℕ) → root < used + 2 → sum-from k w rows 0 root ≡ sweep-of k w rows root
+whole-sum k w rows used ok root h =
+    let z : w - 0 ≡ w = omega arith in
+    ap (λ m. over-builds (k .plus) m (λ t. cond (ends rows root (bit-from 0 t)) (weigh k 0 t) (k .zero))) z
+    ∙ same-over (k .plus) w (λ t. cond (ends rows root (bit-from 0 t)) (weigh k 0 t) (k .zero)) (λ t. cond (meets-root rows root t) (weigh k 0 t) (k .zero))
+    (λ t. ap (λ b. cond b (weigh k 0 t) (k .zero)) (ends-agree w rows used ok root (bit-from 0 t) (bit t) h (λ o p. let q : o - 0 ≡ o = omega arith in ap (λ i. bit t i) q)))
 
 module _ {S : Type 0} (valid : S → Type 0) (k : Weights S) (laws : Laws valid (k .zero) (k .one) (k .plus) (k .times)) where
   -- a factor goes out

@@ -7,7 +7,7 @@ use lib.ListN.{getD}
 use Rattle.builds.specs.Builds.{Build, bit}
 use Rattle.diagrams.specs.declared.row.Row.{Row}
 use Rattle.diagrams.specs.Rows.{option-of}
-use Rattle.diagrams.specs.Walk.{ends}
+use Rattle.diagrams.specs.Walk.{ends, meets-root}
 
 -- a sum that is associative and commutative, with a zero; a product that is associative, with a one;
 -- the product distributes over the sum on both sides, and zero absorbs. It need not be commutative.
@@ -65,6 +65,10 @@ sum-from k w rows v n =
 -- a node's sum over the options from its own on; an end's is over none
 abbrev pub node-sum : {S : Type 0} → Weights S → ℕ → List Row → ℕ → S
 node-sum k w rows n = sum-from k w rows (option-of w rows n) n
+
+-- the sweep of a root: the sum, over the builds of w options that meet it, of the products of their weights
+abbrev pub sweep-of : {S : Type 0} → Weights S → ℕ → List Row → ℕ → S
+sweep-of k w rows root = over-builds (k .plus) w (λ β. cond (meets-root rows root β) (weigh k 0 β) (k .zero))
 
 -- a value with the weights of so many free options in front, from the option v on
 abbrev pub jumps : {S : Type 0} → Weights S → ℕ → ℕ → S → S

@@ -22,8 +22,9 @@ fn show_variants(rt: &LibcRuntime, table: &Diagrams<'_>, values: &[u8]) -> Resul
     Ok(())
 }
 
-pub fn show_diagrams(rt: &LibcRuntime) -> Result<(), AnyError> {
-    let rows = [
+// Nodes 2 to 5 of the example table.
+pub fn example_rows() -> [Row; 4] {
+    [
         Row {
             option: 2,
             low: 0,
@@ -44,12 +45,12 @@ pub fn show_diagrams(rt: &LibcRuntime) -> Result<(), AnyError> {
             low: 2,
             high: 4,
         },
-    ];
-    let mut memory = [Row {
-        option: 0,
-        low: 0,
-        high: 0,
-    }; 4];
+    ]
+}
+
+pub fn show_diagrams(rt: &LibcRuntime) -> Result<(), AnyError> {
+    let rows = example_rows();
+    let mut memory = rows;
     let mut table = Diagrams::empty(&mut memory);
     if table.open(3, &rows, &[5]).is_err() {
         return Err("the table of diagrams was refused".into());

@@ -13,7 +13,7 @@ fn word(value: u8) -> &'static str {
 }
 
 // One line: what stands for each option.
-fn show_values(rt: &LibcRuntime, title: &str, values: &[u8]) -> Result<(), AnyError> {
+pub fn show_values(rt: &LibcRuntime, title: &str, values: &[u8]) -> Result<(), AnyError> {
     print!(rt, "  {title}")?;
     for (option, value) in values.iter().enumerate() {
         let text = word(*value);

@@ -7,16 +7,18 @@ ghost use Rattle.diagram_theory.specs.Semirings.{weights, jumps, node-sum};
 use crate::semiring::Semiring;
 use diagrams::table::Diagrams;
 
-// The option of a node, the width for an end. A kernel: the caller has a node of the table in hand.
+// The option of a node, the width for an end, and 0 where the lent memory has no such row.
 pub fn option_of(bank: &Diagrams<'_>, node: usize) -> usize
-    requires { ⌜ node < now bank .used + 2 ⌝ }
     ensures { λ r. ⌜ r ≡ option-at (now (bank .entry) .width) (now (now (bank .entry) .rows)) node ⌝ }
 {
     if node < 2 {
-        bank.width
-    } else {
-        bank.rows[node - 2].option as usize
+        return bank.width;
     }
+    let row = node - 2;
+    if row >= bank.rows.len() {
+        return 0;
+    }
+    bank.rows[row].option as usize
 }
 
 // A result with the weights of the free options `from` to `to - 1` in front.

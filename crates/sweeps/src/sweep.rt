@@ -6,7 +6,7 @@ ghost use lib.ListN.{length};
 ghost use mathlib.Core.Bool.{_&&_};
 ghost use Rattle.bank.specs.Numbers.{numbered};
 ghost use Rattle.diagrams.specs.Roots.{root-at};
-ghost use Rattle.diagram_theory.specs.Semirings.{weights, node-sum, sum-from};
+ghost use Rattle.diagram_theory.specs.Semirings.{weights, node-sum, sweep-of};
 ghost use Rattle.sweeps.specs.Replies.{room, sweep-reply, column-place};
 use crate::column::column;
 use crate::node::jumped;
@@ -23,7 +23,7 @@ pub fn sweep<S: Semiring + Copy>(
     high: &[S],
     places: &mut [S],
 ) -> Result<S, Refusal>
-    ensures answer { λ r. ⌜ numbered r ≡ sweep-reply (ltb rule (now (bank .entry) .«root_count»)) (room (now (bank .entry) .width) (now (bank .entry) .used) (length (now (low .entry))) (length (now (high .entry))) (length (now (places .entry)))) (sum-from (weights zero one plus times (now (low .entry)) (now (high .entry))) (now (bank .entry) .width) (now (now (bank .entry) .rows)) 0 (root-at (now (bank .entry) .roots) rule .node)) ⌝ }
+    ensures answer { λ r. ⌜ numbered r ≡ sweep-reply (ltb rule (now (bank .entry) .«root_count»)) (room (now (bank .entry) .width) (now (bank .entry) .used) (length (now (low .entry))) (length (now (high .entry))) (length (now (places .entry)))) (sweep-of (weights zero one plus times (now (low .entry)) (now (high .entry))) (now (bank .entry) .width) (now (now (bank .entry) .rows)) (root-at (now (bank .entry) .roots) rule .node)) ⌝ }
     ensures after { λ _. ⌜ now (places .exit) ≡ column-place (ltb rule (now (bank .entry) .«root_count») && room (now (bank .entry) .width) (now (bank .entry) .used) (length (now (low .entry))) (length (now (high .entry))) (length (now (places .entry)))) (node-sum (weights zero one plus times (now (low .entry)) (now (high .entry))) (now (bank .entry) .width) (now (now (bank .entry) .rows))) (now (bank .entry) .used + 2) (now (places .entry)) ⌝ }
 {
     if rule >= bank.root_count {

@@ -1,7 +1,7 @@
 -- The worked examples, stated by the meanings of the banks.
 use mathlib.Core.Path.{_≡_}
 use mathlib.Core.List.{List, [], _∷_}
-use mathlib.Core.Bool.{Bool, _&&_}
+use mathlib.Core.Bool.{Bool, true, false, _&&_}
 use Prim.Native.Nat.{ℕ}
 use Rattle.builds.specs.Builds.{Build}
 use Rattle.builds.specs.Values.{fits}
@@ -15,7 +15,10 @@ use Rattle.diagrams.specs.declared.row.Root.{Root}
 use Rattle.diagrams.specs.Walk.{meets-root}
 use Rattle.diagram_theory.specs.Rules.{diagram-bank}
 use Rattle.diagram_theory.specs.Counts.{count-builds}
-use Rattle.layer_theory.specs.Layers.{shift-bank}
+use lib.ListN.{set}
+use Rattle.layer_theory.specs.Layers.{shift-bank, pair-bank}
+use Rattle.search_theory.specs.Runs.{no-picks}
+use Rattle.search_theory.specs.Law.{answer-to, whole, about, is-build, is-none, is-only}
 
 -- what the only clause of a bank says of a values table
 abbrev pub clause-example : ℕ → List ℕ → List ℕ → Said
@@ -70,8 +73,30 @@ pub record Group-examples : Type 0 where
   -- with option 0 left out the other two are taken
   pub rest : groups-bank 3 1 (two-of-three ∷ []) .says 0 (0 ∷ 2 ∷ 2 ∷ []) ≡ live (0 ∷ 1 ∷ 1 ∷ [])
 
+-- T beside a second bank of three options
+abbrev pub T-with : Bank → Bank
+T-with B = pair-bank T-bank B
+
+-- the clause 1 3: option 0 or option 1 is taken
+abbrev pub clause-bank : Bank
+clause-bank = clauses-bank 3 ((1 ∷ 3 ∷ []) ∷ [])
+
+-- all three options
+abbrev pub all-three : Bank
+all-three = groups-bank 3 1 (record { lo = 3; hi = 3; options = 0 ∷ 1 ∷ 2 ∷ [] } ∷ [])
+
+-- the answers that a session owes
+pub record Session-examples : Type 0 where
+  -- the first build of T with the clause
+  pub first : answer-to (T-with clause-bank) no-picks whole ≡ is-build (false ∷ true ∷ true ∷ [])
+  -- T and all three options: nothing can be built
+  pub nothing : answer-to (T-with all-three) no-picks whole ≡ is-none
+  -- with option 2 picked 0 option 0 must be taken
+  pub forced : answer-to T-bank (set no-picks 2 0) (about 0) ≡ is-only true
+
 -- all of them together
 pub record Worked-examples : Type 0 where
   pub clauses : Clause-examples
   pub diagrams : Diagram-examples
   pub groups : Group-examples
+  pub sessions : Session-examples

@@ -4,8 +4,8 @@ ghost use Rattle.worked_examples.specs.Examples.{Worked-examples};
 
 // How many worked examples there are. Its contract is the list: each of them holds.
 pub fn worked_examples() -> usize
-    ensures number { λ r. ⌜ r ≡ 10 ⌝ }
+    ensures number { λ r. ⌜ r ≡ 13 ⌝ }
     ensures list { λ _. ⌜ Worked-examples ⌝ }
 {
-    10
+    13
 }

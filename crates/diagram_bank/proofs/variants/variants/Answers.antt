@@ -11,7 +11,7 @@ use Rattle.std.specs.declared.result.Result.the-variants.{Ok}
 use Rattle.builds.specs.Values.{fits}
 use Rattle.diagrams.specs.Roots.{root-at}
 use Rattle.diagrams.specs.Walk.{meets-root}
-use Rattle.diagram_theory.specs.Semirings.{sum-from, node-sum}
+use Rattle.diagram_theory.specs.Semirings.{node-sum, sweep-of}
 use Rattle.diagram_theory.specs.Models.{counts-64}
 use Rattle.diagram_theory.specs.Counts.{count-builds, node-count}
 use Rattle.diagram_theory.proofs.Columns.{same-columns}
@@ -32,7 +32,6 @@ returns c =
     let v = take w values in
     let sized = length-take-le w values (ready .long) in
     let root = root-at (bank .roots) (c .args .rule) .node in
-    let inside : root < bank .used + 2 = bank .rooted (c .args .rule) (ready .known) in
     let lows : List ℕ = c .value-weights .last .weights in
     let highs : List ℕ = c .value-weights-2 .last .weights in
     let k = counts-64 lows highs in
@@ -44,8 +43,8 @@ returns c =
     let count = count-builds w (λ β. fits v β && meets-root rows root β) in
     record {
       answer =
-          swept-reply _ _ (sum-from k w rows 0 root) _ known roomy (c .sweep .ensures .answer)
-          ∙ ap Ok (root-count w rows (bank .used) (bank .lawful) v sized (ready .few) lows highs given root inside)
+          swept-reply _ _ (sweep-of k w rows root) _ known roomy (c .sweep .ensures .answer)
+          ∙ ap Ok (root-count w rows (bank .used) (bank .lawful) v sized (ready .few) lows highs given root)
           ∙ ap (λ t. variants-reply t count) cause;
       after =
           swept-column _ _ (node-sum k w rows) (bank .used + 2) old (c .sweep .last .places) known roomy (c .sweep .ensures .after)

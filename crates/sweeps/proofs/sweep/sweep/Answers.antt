@@ -8,6 +8,7 @@ use Rattle.diagrams.specs.Rows.{option-of}
 use Rattle.diagrams.specs.Roots.{root-at}
 use Rattle.diagram_theory.specs.Semirings.{weights, jumps, node-sum}
 use Rattle.diagram_theory.proofs.Within.{option-below}
+use Rattle.diagram_theory.proofs.Steps.{whole-sum}
 use Rattle.diagram_theory.proofs.Jumps.{jumps-sum}
 use Rattle.diagram_theory.proofs.Columns.{column-at}
 use Rattle.sweeps.specs.Replies.{column-place}
@@ -33,7 +34,8 @@ returns g c =
     c .jumped .ensures
     ∙ ap (λ (t : ℕ). jumps k 0 (t - 0) (c .index-places-root .result)) (c .option-of .ensures)
     ∙ ap (λ (x : g .S .Denot). jumps k 0 (option-of w rows root - 0) x) (c .index-places-root .is ∙ column-at f (bank .used + 2) (c .column .last .places) _ after root _ inside)
-    ∙ jumps-sum (s .valid) k (s .laws) w rows (bank .used) (bank .lawful) (option-of w rows root - 0) 0 root inside (omega arith) u in
+    ∙ jumps-sum (s .valid) k (s .laws) w rows (bank .used) (bank .lawful) (option-of w rows root - 0) 0 root inside (omega arith) u
+    ∙ whole-sum k w rows (bank .used) (bank .lawful) root inside in
     record {
       answer = simp (known, roomy, value);
       after = simp known (c .in-Continue-column .ensures tt .after);

@@ -1,0 +1,5 @@
+pub mod Stands
+pub mod Asking
+pub mod Looks
+pub mod Stepping
+pub mod Searching

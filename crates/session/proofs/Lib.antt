@@ -1,0 +1,4 @@
+pub mod Keeping
+pub mod Builds
+pub mod Completed
+pub mod Questions

@@ -1,0 +1,5 @@
+pub mod View
+pub mod Replies
+pub mod Checking
+pub mod Completing
+pub mod Forcing

@@ -1,0 +1,5 @@
+use Rattle.trail.proofs.Rings.{ring-none}
+use Rattle.trail.proofs.learnt.Learnt.clear.Needs as need
+
+pub returns : need.returns
+returns c = ring-none _ _

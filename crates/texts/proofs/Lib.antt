@@ -1,0 +1,4 @@
+pub mod FieldRows
+pub mod Going
+pub mod LineNumbers
+pub mod Placing

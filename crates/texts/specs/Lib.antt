@@ -1,0 +1,4 @@
+pub mod Faults
+pub mod Causes
+pub mod Fields
+pub mod Places

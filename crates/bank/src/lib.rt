@@ -1,4 +1,6 @@
 // The rule bank: the one interface behind which diagrams, clauses and groups stand, what it owes, and what it refuses.
+#![tactic(auto)]
+
 pub mod asked;
 pub mod refusal;
 pub mod rule_bank;

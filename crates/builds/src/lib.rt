@@ -1,5 +1,7 @@
 // Builds and values tables: the definitions on which every contract of the library rests, and their laws.
 // The two functions here decide the two relations of the subject; their contracts also carry the laws.
+#![tactic(auto)]
+
 ghost use Rattle.std.specs.Prelude.{◌≡◌, ℕ, ◌<◌, ◌≤◌, Bool, true, false, length};
 ghost use Rattle.builds.specs.Builds.{before as BeforeOf};
 ghost use Rattle.builds.specs.Values.{allows as allows_of, fits as fits_of};

@@ -1,4 +1,6 @@
 // The edges of the clause bank, run: what opening refuses and accepts, and what mark refuses, with the place afterwards.
+#![tactic(auto)]
+
 #[cfg(test)]
 mod tests {
     use bank::refusal::{Answer, Refusal};

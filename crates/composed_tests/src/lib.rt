@@ -1,4 +1,6 @@
 // The bank that a quote will use, put together by hand: a pair of a shifted diagram bank and a pair of clauses and groups.
+#![tactic(auto)]
+
 #[cfg(test)]
 mod tests {
     use bank::refusal::{Answer, Refusal};

@@ -1,4 +1,6 @@
 // Diagrams as a rule bank: exact marks in two passes over the rows, variants, and the walk of one build.
+#![tactic(auto)]
+
 mod descent;
 mod marking;
 pub mod rules;

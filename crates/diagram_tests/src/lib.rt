@@ -1,4 +1,6 @@
 // Tests of the diagram rules: marks, variants, sweeps, the walk, and what each call refuses.
+#![tactic(auto)]
+
 #[cfg(test)]
 mod helpers;
 #[cfg(test)]

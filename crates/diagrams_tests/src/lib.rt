@@ -1,4 +1,6 @@
 // Tests of the diagram bank: opening whole tables, and filling one row by row.
+#![tactic(auto)]
+
 #[cfg(test)]
 mod adding_tests;
 #[cfg(test)]

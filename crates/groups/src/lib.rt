@@ -1,4 +1,6 @@
 // Cardinality groups: at least so many and at most so many of some different options are taken.
+#![tactic(auto)]
+
 mod faults;
 pub mod group;
 mod marking;

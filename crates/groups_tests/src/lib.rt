@@ -1,4 +1,6 @@
 // The edges of the group bank, run: what opening and adding refuse and accept, and what mark says and leaves.
+#![tactic(auto)]
+
 #[cfg(test)]
 mod tests {
     use bank::refusal::{Answer, Refusal};

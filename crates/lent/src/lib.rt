@@ -1,4 +1,6 @@
 // A bank held by reference, which is a bank again. Tables of rules are large; what holds one this way can be moved without copying it.
+#![tactic(auto)]
+
 use bank::refusal::{Answer, Refusal};
 use bank::rule_bank::RuleBank;
 use option_set::OptionSet;

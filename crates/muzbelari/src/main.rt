@@ -1,5 +1,7 @@
 // The program. It opens small tables of each kind of rule, marks them under values tables, completes orders over them,
 // and says in words what was found.
+#![tactic(auto)]
+
 mod clause_case;
 mod diagram_case;
 mod group_case;

@@ -1,5 +1,7 @@
 // Sets of options, one bit each: which options a rule reads, and what a value rests on.
 // Every operation is a few machine instructions, so that a search can afford it at each step.
+#![tactic(auto)]
+
 ghost use Rattle.std.specs.Prelude.{◌≡◌, ℕ, ◌-◌, ◌<◌, false, not, ◌&&◌, ◌||◌, ◌==◌, nat_le, nat_lt};
 ghost use Rattle.option_set.specs.Sets.{member, some_member};
 

@@ -1,3 +1,5 @@
 // Reading a pick text into a table of picks, line by line.
+#![tactic(auto)]
+
 mod pick_line;
 pub mod picks_text;

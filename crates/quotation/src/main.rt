@@ -1,5 +1,7 @@
 // The quotation program: reads rules.txt and picks.txt in the working folder and prints the listing of the order.
 // Of a fault it also says in words, on standard error, what it is and which line has it.
+#![tactic(auto)]
+
 mod faults;
 mod words;
 

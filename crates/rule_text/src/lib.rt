@@ -1,4 +1,6 @@
 // Reading a rule text into the three tables of rules, line by line.
+#![tactic(auto)]
+
 pub mod frame;
 mod kind;
 mod opening;

@@ -1,5 +1,7 @@
 // The theory of the search and of the session: trails and steps, calls and runs, and the law that holds over every run.
 // There is no code here beyond the functions whose contracts carry the theorems.
+#![tactic(auto)]
+
 ghost use Rattle.search_theory.specs.Law.{SessionLaw, AnswerToLaw, SearchFirst, SearchBound, BuiltRun};
 ghost use Rattle.search_theory.specs.Kept.{SessionKept};
 

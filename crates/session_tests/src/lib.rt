@@ -1,4 +1,6 @@
 // Sessions over small clause banks, run: answers, refusals in their order, what closes an open search, and a replay.
+#![tactic(auto)]
+
 #[cfg(test)]
 mod tests {
     use bank::refusal::Refusal;

@@ -1,4 +1,6 @@
 // Marks every lawful table of up to three rows over three options, under every values table, and compares each answer with trying all builds.
+#![tactic(auto)]
+
 mod by_builds;
 mod tables;
 

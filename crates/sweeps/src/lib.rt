@@ -1,4 +1,6 @@
 // Sweeps over diagrams: one column of node results serves every semiring, over memory handed in.
+#![tactic(auto)]
+
 pub mod column;
 pub mod node;
 pub mod semiring;

@@ -1,4 +1,6 @@
 // The worked examples of docs/RULES.md as one list, proved together from the meanings of the banks.
+#![tactic(auto)]
+
 ghost use Rattle.std.specs.Prelude.{◌≡◌};
 ghost use Rattle.worked_examples.specs.Examples.{WorkedExamples};
 

@@ -14,18 +14,18 @@ returns-then-values-width c =
     (λ h. record { value = sym (short_room c.args.width c.args.count c.args.rule c.args.values.now c.args.room (omega arith) (omega arith)); ready = tt })
     c.then-values-width.either
 
-pub returns-then-not-values-up-to : goal.returns-then-not-values-up-to
-returns-then-not-values-up-to c =
+pub returns-then-not-values_up_to : goal.returns-then-not-values_up_to
+returns-then-not-values_up_to c =
     let v = c.args.values.now in
     let w = c.args.width in
-    let small : up_to 2 (take w v) ≡ false = sym (c.if-not-values-up-to.ensures ∙ ap (λ t. t && up_to 2 (take w v)) (le-leb w (length v) (omega arith))) in
+    let small : up_to 2 (take w v) ≡ false = sym (c.if-not-values_up_to.ensures ∙ ap (λ t. t && up_to 2 (take w v)) (le-leb w (length v) (omega arith))) in
     record { value = sym (bad_value w c.args.count c.args.rule v c.args.room (omega arith) (omega arith) (omega arith) small); ready = tt }
 
 pub returns : goal.returns
 returns c =
     let v = c.args.values.now in
     let w = c.args.width in
-    let small : up_to 2 (take w v) ≡ true = (and_parts (leb w (length v)) (up_to 2 (take w v)) (sym c.if-not-values-up-to.ensures)).1 in
+    let small : up_to 2 (take w v) ≡ true = (and_parts (leb w (length v)) (up_to 2 (take w v)) (sym c.if-not-values_up_to.ensures)).1 in
     record {
       value = sym (no_cause w c.args.count c.args.rule v c.args.room (omega arith) (omega arith) (omega arith) small);
       ready = record { known = omega arith; long = omega arith; wide = omega arith; small = small };

@@ -14,10 +14,10 @@ pub returns-in-Some : goal.returns-in-Some
 returns-in-Some c =
     record { value = sym (too_many_at c.args.width (lists c.args.clauses.now) c.in-Some.item (omega arith) (omega arith) c.in-Some.ensures); opens = tt }
 
-pub returns-in-Some-first-outside : goal.returns-in-Some-first-outside
-returns-in-Some-first-outside c =
+pub returns-in-Some-first_outside : goal.returns-in-Some-first_outside
+returns-in-Some-first_outside c =
     record {
-      value = sym (outside_at c.args.width (lists c.args.clauses.now) c.in-Some-first-outside.item (omega arith) (omega arith) c.in-default.ensures c.in-Some-first-outside.ensures);
+      value = sym (outside_at c.args.width (lists c.args.clauses.now) c.in-Some-first_outside.item (omega arith) (omega arith) c.in_default.ensures c.in-Some-first_outside.ensures);
       opens = tt;
     }
 
@@ -25,6 +25,6 @@ pub returns : goal.returns
 returns c =
     let cs = lists c.args.clauses.now in
     record {
-      value = sym (none_refused c.args.width cs (omega arith) (omega arith) c.in-default.ensures c.in-default-first-outside.ensures);
-      opens = opens c.args.width cs (omega arith) (omega arith) c.in-default.ensures c.in-default-first-outside.ensures;
+      value = sym (none_refused c.args.width cs (omega arith) (omega arith) c.in_default.ensures c.in_default-first_outside.ensures);
+      opens = opens c.args.width cs (omega arith) (omega arith) c.in_default.ensures c.in_default-first_outside.ensures;
     }

@@ -23,7 +23,7 @@ returns-in-One c =
     let l = c.in-One.literal in
     let e = left_says v c.args.literals.now (One l) c.requires.small c.requires.inside c.in-One.ensures.value in
     let r = live_noted _ (set v (l.number / 2) (l.number % 2)) c.args.marks.now e (simp length-set (omega arith)) in
-    let same = c.copy-from-slice.ensures.after in
+    let same = c.copy_from_slice.ensures.after in
     let marks = r.1 in
     record { value = r.0; after = cc }
 
@@ -32,4 +32,4 @@ returns-in-Free c =
     let v = c.args.values.now in
     let e = left_says v c.args.literals.now Free c.requires.small c.requires.inside c.in-Free.ensures.value in
     let r = live_noted _ v c.args.marks.now e (omega arith) in
-    record { value = r.0; after = c.copy-from-slice-in-Free.ensures.after ∙ r.1 }
+    record { value = r.0; after = c.copy_from_slice-in-Free.ensures.after ∙ r.1 }

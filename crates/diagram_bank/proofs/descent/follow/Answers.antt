@@ -10,7 +10,7 @@ returns c =
     let from = c.args.option + 1 in
     let end = option_of bank.width bank.rows.now c.args.child in
     let counts : c.args.counts ≡ true = c.if-not-counts.false in
-    let to : c.option-of-to.result ≡ end = c.option-of-to.ensures in
+    let to : c.option_of-to.result ≡ end = c.option_of-to.ensures in
     record {
       nodes = marked_set c.args.counts c.args.child c.args.reached.now (omega arith);
       left = subst (λ (b : Bool). Freed b from end c.args.low.now c.args.zeros.now c.free.new.seen) (sym counts)

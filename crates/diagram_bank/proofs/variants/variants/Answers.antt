@@ -20,17 +20,17 @@ returns c =
     let rows = bank.rows.now in
     let values : List ℕ = c.args.values.now in
     let old : List ℕ = c.args.column.now in
-    let ready = c.in-default.ensures.ready in
-    let cause = c.in-default.ensures.value in
+    let ready = c.in_default.ensures.ready in
+    let cause = c.in_default.ensures.value in
     let v = take w values in
     let sized = length-take-le w values ready.long in
     let root = (root_at bank.roots c.args.rule).node in
-    let lows : List ℕ = c.value-weights.new.weights in
-    let highs : List ℕ = c.value-weights-2.new.weights in
+    let lows : List ℕ = c.value_weights.new.weights in
+    let highs : List ℕ = c.value_weights-2.new.weights in
     let k = counts_64 lows highs in
     let given = weight_of k w v
-    (λ o d h. c.value-weights.ensures o d h ∙ ap (λ (x : ℕ). cond (eqb x 1) 0 1) (sym (get_or-take w values o 0 h)))
-    (λ o d h. c.value-weights-2.ensures o d h ∙ ap (λ (x : ℕ). cond (eqb x 0) 0 1) (sym (get_or-take w values o 0 h))) in
+    (λ o d h. c.value_weights.ensures o d h ∙ ap (λ (x : ℕ). cond (eqb x 1) 0 1) (sym (get_or-take w values o 0 h)))
+    (λ o d h. c.value_weights-2.ensures o d h ∙ ap (λ (x : ℕ). cond (eqb x 0) 0 1) (sym (get_or-take w values o 0 h))) in
     let known = lt-ltb c.args.rule bank.root_count ready.known in
     let roomy = room_enough w bank.used (length lows) (length highs) (length old) (omega arith) (omega arith) ready.wide in
     let count = count_builds w (λ β. fits v β && meets_root rows root β) in

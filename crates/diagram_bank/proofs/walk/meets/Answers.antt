@@ -7,8 +7,8 @@ use Rattle.diagram_theory.proofs.Within.{ends_within}
 use Rattle.diagram_theory.proofs.Paths.{path_law}
 use Rattle.diagram_bank.proofs.walk.meets.Goals as goal
 
-pub returns-then-rule-bank : goal.returns-then-rule-bank
-returns-then-rule-bank c =
+pub returns-then-rule_bank : goal.returns-then-rule_bank
+returns-then-rule_bank c =
     record { answer = sym (cond-false _ _ _ (le-ltb c.args.rule c.args.bank.now.root_count (omega arith))); paths = path_law }
 
 pub returns-then-build-bank : goal.returns-then-build-bank
@@ -25,7 +25,7 @@ returns c =
     let β = c.args.build.now in
     let root = (root_at bank.roots c.args.rule).node in
     let inside : root < bank.used + 2 = bank.rooted c.args.rule (omega arith) in
-    let met = c.ends-at-one.ensures
+    let met = c.ends_at_one.ensures
     ∙ ends_within bank.width bank.rows.now bank.used bank.lawful root (bit β) (bit (take bank.width β)) inside (λ o p q. sym (get_or-take bank.width β o false q)) in
     record {
       answer = ap Ok met ∙ sym (cond-true _ _ _ (lt-ltb c.args.rule bank.root_count (omega arith)) ∙ cond-true _ _ _ (le-leb bank.width (length β) (omega arith)));

@@ -7,13 +7,13 @@ pub returns-then-width-eq0 : goal.returns-then-width-eq0
 unfolding sizes_cause and_then refused_at
 returns-then-width-eq0 c = grind (arith, nat_tests)
 
-pub returns-then-row-count-room : goal.returns-then-row-count-room
+pub returns-then-row_count-room : goal.returns-then-row_count-room
 unfolding sizes_cause and_then refused_at
-returns-then-row-count-room c = grind (arith, nat_tests)
+returns-then-row_count-room c = grind (arith, nat_tests)
 
-pub returns-then-root-count-gt128 : goal.returns-then-root-count-gt128
+pub returns-then-root_count-gt128 : goal.returns-then-root_count-gt128
 unfolding sizes_cause and_then refused_at
-returns-then-root-count-gt128 c = grind (arith, nat_tests)
+returns-then-root_count-gt128 c = grind (arith, nat_tests)
 
 pub returns : goal.returns
 unfolding sizes_cause and_then refused_at

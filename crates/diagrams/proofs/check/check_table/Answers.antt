@@ -5,25 +5,25 @@ use Rattle.diagrams.specs.Causes.{roots_cause, refused_at}
 use Rattle.diagrams.proofs.Clear.{then_stops, then_goes_on, clear_sizes}
 use Rattle.diagrams.proofs.check.check_table.Goals as goal
 
-pub check-rows-requires : goal.check-rows-requires
-check-rows-requires c = let z = clear_sizes _ _ _ _ _ (sym c.in-ok-check-sizes.ensures) in omega (arith, z.2)
+pub check_rows-requires : goal.check_rows-requires
+check_rows-requires c = let z = clear_sizes _ _ _ _ _ (sym c.in_ok-check_sizes.ensures) in omega (arith, z.2)
 
-pub returns-in-err-check-sizes : goal.returns-in-err-check-sizes
-returns-in-err-check-sizes c =
-    let p = err_from_is_err_and c.from-residual.result c.from-residual.ensures.1 in
-    rw (p.1, p.2) (sym (then_stops _ _ _ (sym c.in-err-check-sizes.ensures)))
+pub returns-in_err-check_sizes : goal.returns-in_err-check_sizes
+returns-in_err-check_sizes c =
+    let p = err_from_is_err_and c.from_residual.result c.from_residual.ensures.1 in
+    rw (p.1, p.2) (sym (then_stops _ _ _ (sym c.in_err-check_sizes.ensures)))
 
-pub returns-in-err-check-rows : goal.returns-in-err-check-rows
-returns-in-err-check-rows c =
-    let p = err_from_is_err_and c.from-residual-in-err-check-rows.result c.from-residual-in-err-check-rows.ensures.1 in
+pub returns-in_err-check_rows : goal.returns-in_err-check_rows
+returns-in_err-check_rows c =
+    let p = err_from_is_err_and c.from_residual-in_err-check_rows.result c.from_residual-in_err-check_rows.ensures.1 in
     rw (p.1, p.2)
-    (sym (then_goes_on _ _ _ (sym c.in-ok-check-sizes.ensures) ∙ then_stops _ _ _ (sym c.in-err-check-rows.ensures)))
+    (sym (then_goes_on _ _ _ (sym c.in_ok-check_sizes.ensures) ∙ then_stops _ _ _ (sym c.in_err-check_rows.ensures)))
 
-pub first-root-requires : goal.first-root-requires
-first-root-requires c = let z = clear_sizes _ _ _ _ _ (sym c.in-ok-check-sizes.ensures) in omega (arith, z.2)
+pub first_root-requires : goal.first_root-requires
+first_root-requires c = let z = clear_sizes _ _ _ _ _ (sym c.in_ok-check_sizes.ensures) in omega (arith, z.2)
 
 pub returns : goal.returns
 unfolding roots_cause
 returns c =
-    c.refused_at.ensures ∙ ap (refused_at RootUnknown) c.first-root.ensures
-    ∙ sym (then_goes_on _ _ _ (sym c.in-ok-check-sizes.ensures) ∙ then_goes_on _ _ _ (sym c.in-ok-check-rows.ensures))
+    c.refused_at.ensures ∙ ap (refused_at RootUnknown) c.first_root.ensures
+    ∙ sym (then_goes_on _ _ _ (sym c.in_ok-check_sizes.ensures) ∙ then_goes_on _ _ _ (sym c.in_ok-check_rows.ensures))

@@ -3,10 +3,10 @@ use Rattle.diagrams.proofs.First.{first_none, first_found}
 use Rattle.diagrams.proofs.check.first_child.Goals as goal
 
 pub loop-r-preserved : goal.loop-r-preserved
-loop-r-preserved c = below_more _ _ c.loop-r.invariant (sym c.if-child-fails.ensures)
+loop-r-preserved c = below_more _ _ c.loop-r.invariant (sym c.if-child_fails.ensures)
 
 pub returns : goal.returns
 returns c = sym (first_none _ _ (λ k h. c.loop-r.invariant k (omega arith)))
 
-pub returns-then-child-fails : goal.returns-then-child-fails
-returns-then-child-fails c = sym (first_found _ _ _ c.loop-r-test.true c.loop-r.invariant (sym c.if-child-fails.ensures))
+pub returns-then-child_fails : goal.returns-then-child_fails
+returns-then-child_fails c = sym (first_found _ _ _ c.loop-r-test.true c.loop-r.invariant (sym c.if-child_fails.ensures))

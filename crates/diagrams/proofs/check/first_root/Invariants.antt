@@ -3,4 +3,4 @@ use Rattle.diagrams.specs.Causes.{root_bad}
 use Rattle.diagrams.proofs.check.first_root.Given as goal
 
 abbrev pub invariant-loop-i : goal.invariant-loop-i
-invariant-loop-i l = (k : ℕ) → k < l.i → root_bad l.row-count (get_or l.roots k 0) ≡ false
+invariant-loop-i l = (k : ℕ) → k < l.i → root_bad l.row_count (get_or l.roots k 0) ≡ false

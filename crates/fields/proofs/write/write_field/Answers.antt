@@ -11,11 +11,11 @@ loop-j-preserved c =
     let n = c.args.number in
     let j = c.loop-j.j in
     let p = c.loop-j.place in
-    let b : c.column-byte.result ≡ column n j = c.column-byte.ensures ∙ ap (λ r. cond (eqb r 0 && ltb 0 j) 32 (48 + r % 10)) c.loop-j.invariant.0 ∙ column_rest n j in (
+    let b : c.column_byte.result ≡ column n j = c.column_byte.ensures ∙ ap (λ r. cond (eqb r 0 && ltb 0 j) 32 (48 + r % 10)) c.loop-j.invariant.0 ∙ column_rest n j in (
       ap (λ r. r / 10) c.loop-j.invariant.0 ∙ sym (cut_more n j) ∙ ap (λ k. n / 10 ^ k) (sym (add-one j)),
       below_more _ _
-          (λ k h. let ne : 5 - k ≢ 5 - j = λ e. omega arith in get_or-set_other p (5 - j) (5 - k) c.column-byte.result 0 ne ∙ c.loop-j.invariant.1 k h)
-          (get_or-set_same p (5 - j) c.column-byte.result 0 (omega arith) ∙ b),
+          (λ k h. let ne : 5 - k ≢ 5 - j = λ e. omega arith in get_or-set_other p (5 - j) (5 - k) c.column_byte.result 0 ne ∙ c.loop-j.invariant.1 k h)
+          (get_or-set_same p (5 - j) c.column_byte.result 0 (omega arith) ∙ b),
     )
 
 pub returns : goal.returns

@@ -22,7 +22,7 @@ loop-cause-preserved c =
     let gs = map told c.args.groups.now in
     let w = c.args.width in
     let n = c.args.from in
-    ap (λ t. or_next (get_or cs i BadWidth) t (first_cause w (drop (i + 1) cs) n gs)) c.in-default.ensures
+    ap (λ t. or_next (get_or cs i BadWidth) t (first_cause w (drop (i + 1) cs) n gs)) c.in_default.ensures
     ∙ sym (at_drop_more (λ t. first_cause w t n gs) cs i BadWidth (omega arith)) ∙ c.loop-cause.invariant
 
 pub returns : goal.returns

@@ -30,7 +30,7 @@ returns-then-full c =
     let a = c.holding-taken.ensures.value in
     let b = c.holding.ensures.value in
     let r : Room lo hi os v = record { above = omega arith; below = omega arith } in
-    let m : c.settle.new.marks ≡ settled 0 os v = c.settle.ensures ∙ ap (settled 0 os) c.copy-from-slice.ensures.after in
+    let m : c.settle.new.marks ≡ settled 0 os v = c.settle.ensures ∙ ap (settled 0 os) c.copy_from_slice.ensures.after in
     let e : answer_of (length v) (group_meets lo hi os) v ≡ live c.settle.new.marks =
     group_full (length v) lo hi os c.requires.ordered c.requires.inside c.requires.different v refl c.requires.small r (omega arith) ∙ ap live (sym m) in
     let l : length c.settle.new.marks ≡ length v = ap length m ∙ length_settled 0 os v in
@@ -47,7 +47,7 @@ returns-then-scarce c =
     let b = c.holding.ensures.value in
     let r : Room lo hi os v = record { above = omega arith; below = omega arith } in
     let new = c.settle-then-scarce.new.marks in
-    let m : new ≡ settled 1 os v = c.settle-then-scarce.ensures ∙ ap (settled 1 os) c.copy-from-slice.ensures.after in
+    let m : new ≡ settled 1 os v = c.settle-then-scarce.ensures ∙ ap (settled 1 os) c.copy_from_slice.ensures.after in
     let e : answer_of (length v) (group_meets lo hi os) v ≡ live new =
     group_needed (length v) lo hi os c.requires.ordered c.requires.inside c.requires.different v refl c.requires.small r (omega (arith, c.holding.ensures.bound)) ∙ ap live (sym m) in
     let l : length new ≡ length v = ap length m ∙ length_settled 1 os v in
@@ -62,8 +62,8 @@ returns-else-scarce c =
     let hi = c.args.hi in
     let a = c.holding-taken.ensures.value in
     let b = c.holding.ensures.value in
-    let new = c.copy-from-slice.new.self in
-    let m : new ≡ v = c.copy-from-slice.ensures.after in
+    let new = c.copy_from_slice.new.self in
+    let m : new ≡ v = c.copy_from_slice.ensures.after in
     let few : holding 1 os v < hi = omega (arith, c.if-full.false) in
     let many : lo + holding 0 os v < length os = omega (arith, c.if-scarce.false, c.holding.ensures.bound) in
     let e : answer_of (length v) (group_meets lo hi os) v ≡ live new =

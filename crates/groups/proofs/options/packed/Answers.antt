@@ -3,8 +3,8 @@ use Rattle.std.proofs.lemmas.List.{take_all, take_more, take_more_set}
 use Rattle.groups.proofs.Belows.{below_at}
 use Rattle.groups.proofs.options.packed.Goals as goal
 
-pub overflow-cast-places : goal.overflow-cast-places
-overflow-cast-places c = let k : get_or c.args.options.now c.loop-i.i 0 < 128 = below_at 128 c.args.options.now c.loop-i.i c.requires.low (omega arith) in omega arith
+pub overflow_cast-places : goal.overflow_cast-places
+overflow_cast-places c = let k : get_or c.args.options.now c.loop-i.i 0 < 128 = below_at 128 c.args.options.now c.loop-i.i c.requires.low (omega arith) in omega arith
 
 pub loop-i-preserved : goal.loop-i-preserved
 loop-i-preserved c =

@@ -25,9 +25,9 @@ returns-in-Live g c =
     let m = g.B.RuleBank in
     let r = part_live c.args.start (m.meaning x).width c.args.w (m.meaning x).rules c.args.rule ((m.meaning x).says c.args.rule) c.args.values.now c.args.marks.now
     c.requires.inside c.requires.long c.requires.room c.requires.known c.requires.small (sized g x c.args.rule c.requires.known)
-    c.mark.new.marks c.copy-part.new.marks c.copy-part-in-Live.new.marks
+    c.mark.new.marks c.copy_part.new.marks c.copy_part-in-Live.new.marks
     (ap Ok (sym c.in-Live.is) ∙ (rw c.width.ensures at c.in-Ok.ensures.answer)) (rw c.width.ensures at c.mark.ensures.after)
-    (rw c.width.ensures at c.copy-part.ensures) (rw c.width.ensures at c.copy-part-in-Live.ensures) in
+    (rw c.width.ensures at c.copy_part.ensures) (rw c.width.ensures at c.copy_part-in-Live.ensures) in
     record { value = r.0; after = r.1 }
 
 pub returns-in-Dead : goal.returns-in-Dead

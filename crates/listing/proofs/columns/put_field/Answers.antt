@@ -16,6 +16,6 @@ returns c =
     let z : (at + 6) - at ≡ 6 = omega arith in
     let part = take (at + 6 - at) (drop at old) in
     let long : length part ≡ 6 = length-take-le (at + 6 - at) (drop at old) (rw length-drop (omega arith)) ∙ z in
-    let good : c.write-field.result ≡ true = c.write-field.ensures.value ∙ and_from (ltb n 1000000) (eqb (length part) 6) (lt-ltb n 1000000 c.requires.small) (eq-eqb (length part) 6 long) in
-    let e : c.write-field.new.place ≡ field_of n = c.write-field.ensures.after ∙ cond-true _ _ _ good in
+    let good : c.write_field.result ≡ true = c.write_field.ensures.value ∙ and_from (ltb n 1000000) (eqb (length part) 6) (lt-ltb n 1000000 c.requires.small) (eq-eqb (length part) 6 long) in
+    let e : c.write_field.new.place ≡ field_of n = c.write_field.ensures.after ∙ cond-true _ _ _ good in
     ap (put_mid at (at + 6 - at) old) e ∙ ap (λ k. put_mid at k old (field_of n)) z ∙ put_part old (field_of n) at 6 (field_length n)

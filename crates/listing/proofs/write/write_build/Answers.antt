@@ -32,7 +32,7 @@ loop-i-preserved c =
     let o = option_length i v in
     let more : value_lines 0 (take (i + 1) vs) ≡ value_lines 0 (take i vs) ++ option_line i v =
     ap (value_lines 0) (take_more vs i 0 (omega arith)) ∙ lines_push 0 (take i vs) v ∙ ap (λ k. value_lines 0 (take i vs) ++ option_line k v) (zero-add (length (take i vs)) ∙ n) in
-    put_next old (value_lines 0 (take i vs)) (option_line i v) c.loop-i.listing c.put-option.new.listing 0 (14 * i) c.loop-i.invariant c.put-option.ensures (omega arith) (omega arith)
+    put_next old (value_lines 0 (take i vs)) (option_line i v) c.loop-i.listing c.put_option.new.listing 0 (14 * i) c.loop-i.invariant c.put_option.ensures (omega arith) (omega arith)
     ∙ ap (λ t. put_at 0 t old) (sym more)
 
 pub returns : goal.returns

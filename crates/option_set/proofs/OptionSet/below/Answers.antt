@@ -9,8 +9,8 @@ use Rattle.option_set.proofs.OptionSet.below.Goals as goal
 pub returns-then-n-ge128 : goal.returns-then-n-ge128
 returns-then-n-ge128 c = λ o lt. member_below 128 o ∙ lt-ltb o 128 lt ∙ sym (lt-ltb o c.args.n (omega arith))
 
-pub overflow-sub-result : goal.overflow-sub-result
-overflow-sub-result c = let n = c.args.n in let small : n < 128 = omega arith in omega (arith, one_shl n 128 small, pow_pos n)
+pub overflow_sub-result : goal.overflow_sub-result
+overflow_sub-result c = let n = c.args.n in let small : n < 128 = omega arith in omega (arith, one_shl n 128 small, pow_pos n)
 
 pub returns : goal.returns
 returns c =

@@ -25,10 +25,10 @@ returns-in-Build g c =
     let place = c.complete.new.place in
     let h = c.in-Ok.ensures.first (told_stands meaning b c.new-session.result s n.bank n.stands t.bank t.kept) in
     let width : c.width-width.result - 0 ≡ (meaning b).width = (let z = c.width-width.ensures in omega arith) in
-    build_told (meaning b) ps c.args.budget old (g.B.RuleBank.duties b).narrow c.requires.room c.no-picks-place.result place c.write-build.result c.write-build.new.listing
-    (settled meaning b ps s (t.bank ∙ n.bank) t.picks c.in-Ok.completion.verdict Found c.no-picks-place.result place c.in-Build.is h) c.write-build.ensures.law
-    (c.write-build.ensures.count ∙ ap (λ k. written_count (build_fits (take k place) old) (value_lines 0 (take k place))) width)
-    (c.write-build.ensures.listing ∙ ap (λ k. written (build_fits (take k place) old) (value_lines 0 (take k place)) old) width)
+    build_told (meaning b) ps c.args.budget old (g.B.RuleBank.duties b).narrow c.requires.room c.no_picks-place.result place c.write_build.result c.write_build.new.listing
+    (settled meaning b ps s (t.bank ∙ n.bank) t.picks c.in-Ok.completion.verdict Found c.no_picks-place.result place c.in-Build.is h) c.write_build.ensures.law
+    (c.write_build.ensures.count ∙ ap (λ k. written_count (build_fits (take k place) old) (value_lines 0 (take k place))) width)
+    (c.write_build.ensures.listing ∙ ap (λ k. written (build_fits (take k place) old) (value_lines 0 (take k place)) old) width)
 
 pub returns-in-NoBuild : goal.returns-in-NoBuild
 returns-in-NoBuild g c =
@@ -40,9 +40,9 @@ returns-in-NoBuild g c =
     let t = c.tell.ensures in
     let place = c.complete.new.place in
     let h = c.in-Ok.ensures.first (told_stands meaning b c.new-session.result s n.bank n.stands t.bank t.kept) in
-    none_told (meaning b) ps c.args.budget c.args.listing.now (g.B.RuleBank.duties b).narrow c.requires.room c.no-picks-place.result place c.write-none.result c.write-none.new.listing
-    (settled meaning b ps s (t.bank ∙ n.bank) t.picks c.in-Ok.completion.verdict NoBuild c.no-picks-place.result place c.in-NoBuild.is h)
-    c.write-none.ensures.count c.write-none.ensures.listing
+    none_told (meaning b) ps c.args.budget c.args.listing.now (g.B.RuleBank.duties b).narrow c.requires.room c.no_picks-place.result place c.write_none.result c.write_none.new.listing
+    (settled meaning b ps s (t.bank ∙ n.bank) t.picks c.in-Ok.completion.verdict NoBuild c.no_picks-place.result place c.in-NoBuild.is h)
+    c.write_none.ensures.count c.write_none.ensures.listing
 
 pub returns : goal.returns
 returns g c =
@@ -54,7 +54,7 @@ returns g c =
     let t = c.tell.ensures in
     let s' = c.complete.new.self in
     let h = c.in-Ok.ensures.does (told_stands meaning b c.new-session.result s n.bank n.stands t.bank t.kept) in
-    spent_told (meaning b) ps c.args.budget c.args.listing.now (g.B.RuleBank.duties b).narrow c.requires.room (state_of s) (state_of s') c.in-Ok.completion.steps c.write-spent.result c.write-spent.new.listing
+    spent_told (meaning b) ps c.args.budget c.args.listing.now (g.B.RuleBank.duties b).narrow c.requires.room (state_of s) (state_of s') c.in-Ok.completion.steps c.write_spent.result c.write_spent.new.listing
     c.requires.budget t.picks
-    (spent_does meaning b ps s (t.bank ∙ n.bank) t.picks c.in-Ok.completion.verdict c.args.budget (length c.no-picks-place.result) c.in-Ok.completion.steps c.complete.new.place (state_of s') c.in-Spent.is c.no-picks-place.ensures h)
-    c.write-spent.ensures.count c.write-spent.ensures.listing
+    (spent_does meaning b ps s (t.bank ∙ n.bank) t.picks c.in-Ok.completion.verdict c.args.budget (length c.no_picks-place.result) c.in-Ok.completion.steps c.complete.new.place (state_of s') c.in-Spent.is c.no_picks-place.ensures h)
+    c.write_spent.ensures.count c.write_spent.ensures.listing

@@ -11,18 +11,18 @@ use Rattle.quote.specs.Quoting.{Spaced, Lists}
 use Rattle.pick_text.specs.Orders.{order_of}
 use Rattle.quote.proofs.quote.quote.Goals as goal
 
-pub returns-then-listing-lt-LISTING-ROOM : goal.returns-then-listing-lt-LISTING-ROOM
-returns-then-listing-lt-LISTING-ROOM c = record { quoted = rw (lt-ltb (length c.args.listing.now) 1792 c.if-listing-lt-LISTING-ROOM.true) (refl, refl); width = width_law }
+pub returns-then-listing-lt-LISTING_ROOM : goal.returns-then-listing-lt-LISTING_ROOM
+returns-then-listing-lt-LISTING_ROOM c = record { quoted = rw (lt-ltb (length c.args.listing.now) 1792 c.if-listing-lt-LISTING_ROOM.true) (refl, refl); width = width_law }
 
 pub answer-requires : goal.answer-requires
 answer-requires c =
     let e = c.in-Ok.ensures in
     let r = e.ready in
-    let l = c.read-order.new in
+    let l = c.read_order.new in
     record {
       picks = order_picks c.args.rules.now c.args.picks.now c.args.budget l.diagrams l.clauses l.groups c.in-Ok.frame.first l.picked r.held r.block r.picked e.answer;
       budget = budget_read c.args.rules.now c.args.picks.now c.args.budget _ (sym e.answer);
-      room = c.if-listing-lt-LISTING-ROOM.false;
+      room = c.if-listing-lt-LISTING_ROOM.false;
     }
 
 pub returns-in-Err : goal.returns-in-Err
@@ -32,11 +32,11 @@ returns-in-Err c =
     let e = c.in-Err.ensures.answer in
     let order = order_of c.args.rules.now c.args.picks.now c.args.budget in
     let small = line_small c.args.rules.now c.args.picks.now c.args.budget f (sym e) in
-    let room = c.if-listing-lt-LISTING-ROOM.false in
+    let room = c.if-listing-lt-LISTING_ROOM.false in
     record {
       quoted = rw (le-ltb (length old) 1792 room)
-          (put_lines (Lists order c.args.budget) old (fault_line f) (fault_fits f old) c.write-fault.result c.write-fault.new.listing
-          (and_from _ _ (lt-ltb f.line 1000000 small) (le-leb 26 (length old) (omega arith))) (fault_told order f c.args.budget e) c.write-fault.ensures.count c.write-fault.ensures.listing);
+          (put_lines (Lists order c.args.budget) old (fault_line f) (fault_fits f old) c.write_fault.result c.write_fault.new.listing
+          (and_from _ _ (lt-ltb f.line 1000000 small) (le-leb 26 (length old) (omega arith))) (fault_told order f c.args.budget e) c.write_fault.ensures.count c.write_fault.ensures.listing);
       width = width_law;
     }
 
@@ -45,9 +45,9 @@ returns-in-Ok c =
     let old = c.args.listing.now in
     let e = c.in-Ok.ensures in
     let r = e.ready in
-    let l = c.read-order.new in
+    let l = c.read_order.new in
     let order = order_of c.args.rules.now c.args.picks.now c.args.budget in
-    let room = c.if-listing-lt-LISTING-ROOM.false in
+    let room = c.if-listing-lt-LISTING_ROOM.false in
     record {
       quoted = rw (le-ltb (length old) 1792 room)
           (order_told order _ _ _ c.args.budget old c.answer.result c.answer.new.listing e.answer

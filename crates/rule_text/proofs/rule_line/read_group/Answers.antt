@@ -13,61 +13,61 @@ use Rattle.rule_text.proofs.LineSteps.{listed_broke, rest_broke, rest_went}
 use Rattle.rule_text.proofs.TableSteps.{group_front, group_roomed, group_by, group_added, group_counted}
 use Rattle.rule_text.proofs.rule_line.read_group.Goals as goal
 
-pub returns-in-err-front : goal.returns-in-err-front
-returns-in-err-front c =
+pub returns-in_err-front : goal.returns-in_err-front
+returns-in_err-front c =
     let l : Line = record { bytes = c.args.bytes.now; closed = c.args.closed } in
     let t = c.args.groups.now in
-    let p = err_from_is_err_and c.from-residual.result c.from-residual.ensures.1 in
+    let p = err_from_is_err_and c.from_residual.result c.from_residual.ensures.1 in
     rw (p.1, p.2) (record {
-      answer = λ k. listed_broke l (λ fs. if_room (room_cause (length (rules_of t)) (get_or fs 2 0)) (listed_rest 3 (get_or fs 2 0) l (read_options (with_groups k t) fs))) 3 c.in-err-front.field-0.0 (c.in-err-front.ensures.value (omega arith));
+      answer = λ k. listed_broke l (λ fs. if_room (room_cause (length (rules_of t)) (get_or fs 2 0)) (listed_rest 3 (get_or fs 2 0) l (read_options (with_groups k t) fs))) 3 c.in_err-front.field-0.0 (c.in_err-front.ensures.value (omega arith));
       table = refl;
     })
 
-pub returns-in-err-room-for : goal.returns-in-err-room-for
-returns-in-err-room-for c =
+pub returns-in_err-room_for : goal.returns-in_err-room_for
+returns-in_err-room_for c =
     let l : Line = record { bytes = c.args.bytes.now; closed = c.args.closed } in
     let t = c.args.groups.now in
-    let xs = c.in-ok-front.front in
+    let xs = c.in_ok-front.front in
     let n = get_or xs 2 0 in
-    let f = c.in-err-room-for.field-0.0 in
-    let p = err_from_is_err_and c.from-residual-in-err-room-for.result c.from-residual-in-err-room-for.ensures.1 in
+    let f = c.in_err-room_for.field-0.0 in
+    let p = err_from_is_err_and c.from_residual-in_err-room_for.result c.from_residual-in_err-room_for.ensures.1 in
     rw (p.1, p.2) (record {
-      answer = λ k. sym (group_front k t l c.requires.counted xs (c.in-ok-front.ensures.value (omega arith))
-          ∙ group_roomed k t l c.requires.counted xs n (Err (located_of f)) (listed_rest 3 n l (read_options (with_groups k t) (take 3 xs))) c.in-err-room-for.ensures);
+      answer = λ k. sym (group_front k t l c.requires.counted xs (c.in_ok-front.ensures.value (omega arith))
+          ∙ group_roomed k t l c.requires.counted xs n (Err (located_of f)) (listed_rest 3 n l (read_options (with_groups k t) (take 3 xs))) c.in_err-room_for.ensures);
       table = refl;
     })
 
-pub returns-in-err-options : goal.returns-in-err-options
-returns-in-err-options c =
+pub returns-in_err-options : goal.returns-in_err-options
+returns-in_err-options c =
     let l : Line = record { bytes = c.args.bytes.now; closed = c.args.closed } in
     let t = c.args.groups.now in
-    let xs = c.in-ok-front.front in
+    let xs = c.in_ok-front.front in
     let n = get_or xs 2 0 in
-    let few : n ≤ 32 = (room_told t.count n c.in-ok-room-for.ensures).1 in
-    let p = err_from_is_err_and c.from-residual-in-err-options.result c.from-residual-in-err-options.ensures.1 in
+    let few : n ≤ 32 = (room_told t.count n c.in_ok-room_for.ensures).1 in
+    let p = err_from_is_err_and c.from_residual-in_err-options.result c.from_residual-in_err-options.ensures.1 in
     rw (p.1, p.2) (record {
-      answer = λ k. rest_broke l (read_options (with_groups k t) (take 3 xs)) 3 n c.in-err-options.field-0.0 (c.in-err-options.ensures.value (omega arith) few)
-          ∙ sym (group_front k t l c.requires.counted xs (c.in-ok-front.ensures.value (omega arith))
-          ∙ group_roomed k t l c.requires.counted xs n (Ok tt) (listed_rest 3 n l (read_options (with_groups k t) (take 3 xs))) c.in-ok-room-for.ensures);
+      answer = λ k. rest_broke l (read_options (with_groups k t) (take 3 xs)) 3 n c.in_err-options.field-0.0 (c.in_err-options.ensures.value (omega arith) few)
+          ∙ sym (group_front k t l c.requires.counted xs (c.in_ok-front.ensures.value (omega arith))
+          ∙ group_roomed k t l c.requires.counted xs n (Ok tt) (listed_rest 3 n l (read_options (with_groups k t) (take 3 xs))) c.in_ok-room_for.ensures);
       table = refl;
     })
 
-pub returns-in-err-add : goal.returns-in-err-add
-returns-in-err-add c =
+pub returns-in_err-add : goal.returns-in_err-add
+returns-in_err-add c =
     let l : Line = record { bytes = c.args.bytes.now; closed = c.args.closed } in
     let t = c.args.groups.now in
-    let xs = c.in-ok-front.front in
+    let xs = c.in_ok-front.front in
     let n = get_or xs 2 0 in
-    let few : n ≤ 32 = (room_told t.count n c.in-ok-room-for.ensures).1 in
-    let ys = c.in-ok-options.options in
-    let f = c.in-err-add.field-0.0 in
+    let few : n ≤ 32 = (room_told t.count n c.in_ok-room_for.ensures).1 in
+    let ys = c.in_ok-options.options in
+    let f = c.in_err-add.field-0.0 in
     let z : n - 0 ≡ n = omega arith in
-    let e = c.in-err-add.ensures in
-    let p = err_from_is_err_and c.from-residual-in-err-add.result c.from-residual-in-err-add.ensures.1 in
+    let e = c.in_err-add.ensures in
+    let p = err_from_is_err_and c.from_residual-in_err-add.result c.from_residual-in_err-add.ensures.1 in
     rw (p.1, p.2) (record {
-      answer = λ k. sym (group_front k t l c.requires.counted xs (c.in-ok-front.ensures.value (omega arith))
-          ∙ group_roomed k t l c.requires.counted xs n (Ok tt) (listed_rest 3 n l (read_options (with_groups k t) (take 3 xs))) c.in-ok-room-for.ensures
-          ∙ rest_went l (read_options (with_groups k t) (take 3 xs)) 3 n ys (c.in-ok-options.ensures.value (omega arith) few)
+      answer = λ k. sym (group_front k t l c.requires.counted xs (c.in_ok-front.ensures.value (omega arith))
+          ∙ group_roomed k t l c.requires.counted xs n (Ok tt) (listed_rest 3 n l (read_options (with_groups k t) (take 3 xs))) c.in_ok-room_for.ensures
+          ∙ rest_went l (read_options (with_groups k t) (take 3 xs)) 3 n ys (c.in_ok-options.ensures.value (omega arith) few)
           ∙ group_by k t l c.requires.counted xs (take n ys) (Err (located_of f)) (rw z at e.answer));
       table = e.bank;
     })
@@ -77,18 +77,18 @@ returns c =
     let l : Line = record { bytes = c.args.bytes.now; closed = c.args.closed } in
     let t = c.args.groups.now in
     let t' = c.add.new.self in
-    let xs = c.in-ok-front.front in
+    let xs = c.in_ok-front.front in
     let n = get_or xs 2 0 in
-    let few : n ≤ 32 = (room_told t.count n c.in-ok-room-for.ensures).1 in
-    let ys = c.in-ok-options.options in
+    let few : n ≤ 32 = (room_told t.count n c.in_ok-room_for.ensures).1 in
+    let ys = c.in_ok-options.options in
     let rule = told_one (get_or xs 0 0) (get_or xs 1 0) (take n ys) in
     let z : n - 0 ≡ n = omega arith in
-    let e = c.in-ok-add.ensures in
+    let e = c.in_ok-add.ensures in
     let b = rw z at e.bank in
     record {
-      answer = λ k. sym (group_front k t l c.requires.counted xs (c.in-ok-front.ensures.value (omega arith))
-          ∙ group_roomed k t l c.requires.counted xs n (Ok tt) (listed_rest 3 n l (read_options (with_groups k t) (take 3 xs))) c.in-ok-room-for.ensures
-          ∙ rest_went l (read_options (with_groups k t) (take 3 xs)) 3 n ys (c.in-ok-options.ensures.value (omega arith) few)
+      answer = λ k. sym (group_front k t l c.requires.counted xs (c.in_ok-front.ensures.value (omega arith))
+          ∙ group_roomed k t l c.requires.counted xs n (Ok tt) (listed_rest 3 n l (read_options (with_groups k t) (take 3 xs))) c.in_ok-room_for.ensures
+          ∙ rest_went l (read_options (with_groups k t) (take 3 xs)) 3 n ys (c.in_ok-options.ensures.value (omega arith) few)
           ∙ group_by k t l c.requires.counted xs (take n ys) (Ok tt) (rw z at e.answer)
           ∙ ap Ok (group_added k t t' rule b));
       table = (b.width, group_counted t t' rule b);

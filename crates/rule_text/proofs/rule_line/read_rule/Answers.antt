@@ -16,26 +16,26 @@ returns-in-None c =
     let k = catalogue_of c.args.progress.now d c.args.clauses.now c.args.groups.now in
     record { answer = sym (out_of_turn (room_of d.rows.now) k l 0 c.in-None.ensures refl); tables = (refl, refl, refl, refl); lent = lent_kept d d refl }
 
-pub returns-then-not-in-turn : goal.returns-then-not-in-turn
-returns-then-not-in-turn c =
+pub returns-then-not-in_turn : goal.returns-then-not-in_turn
+returns-then-not-in_turn c =
     let l : Line = record { bytes = c.args.bytes.now; closed = c.args.closed } in
     let d = c.args.diagrams.now in
     let k = catalogue_of c.args.progress.now d c.args.clauses.now c.args.groups.now in
     record {
-      answer = sym (out_of_turn (room_of d.rows.now) k l (rank_of c.in-Some.kind) c.in-Some.ensures (sym c.if-not-in-turn.ensures));
+      answer = sym (out_of_turn (room_of d.rows.now) k l (rank_of c.in-Some.kind) c.in-Some.ensures (sym c.if-not-in_turn.ensures));
       tables = (refl, refl, refl, refl);
       lent = lent_kept d d refl;
     }
 
-pub returns-in-err-read-kind : goal.returns-in-err-read-kind
-returns-in-err-read-kind c =
+pub returns-in_err-read_kind : goal.returns-in_err-read_kind
+returns-in_err-read_kind c =
     let l : Line = record { bytes = c.args.bytes.now; closed = c.args.closed } in
     let d = c.args.diagrams.now in
     let k = catalogue_of c.args.progress.now d c.args.clauses.now c.args.groups.now in
-    let e = c.in-err-read-kind.ensures in
-    let p = err_from_is_err_and c.from-residual.result c.from-residual.ensures.1 in
+    let e = c.in_err-read_kind.ensures in
+    let p = err_from_is_err_and c.from_residual.result c.from_residual.ensures.1 in
     rw (p.1, p.2) (record {
-      answer = e.answer ∙ sym (turn_taken (room_of d.rows.now) k l (rank_of c.in-Some.kind) c.in-Some.ensures (sym c.if-not-in-turn.ensures));
+      answer = e.answer ∙ sym (turn_taken (room_of d.rows.now) k l (rank_of c.in-Some.kind) c.in-Some.ensures (sym c.if-not-in_turn.ensures));
       tables = e.tables;
       lent = e.lent;
     })
@@ -45,9 +45,9 @@ returns c =
     let l : Line = record { bytes = c.args.bytes.now; closed = c.args.closed } in
     let d = c.args.diagrams.now in
     let k = catalogue_of c.args.progress.now d c.args.clauses.now c.args.groups.now in
-    let e = c.in-ok-read-kind.ensures in
+    let e = c.in_ok-read_kind.ensures in
     record {
-      answer = e.answer ∙ sym (turn_taken (room_of d.rows.now) k l (rank_of c.in-Some.kind) c.in-Some.ensures (sym c.if-not-in-turn.ensures));
+      answer = e.answer ∙ sym (turn_taken (room_of d.rows.now) k l (rank_of c.in-Some.kind) c.in-Some.ensures (sym c.if-not-in_turn.ensures));
       tables = e.tables;
       lent = e.lent;
     }

@@ -5,7 +5,7 @@ use Rattle.trail.specs.View.{trail_of, entry_of}
 use Rattle.trail.specs.Ring.{literals_of}
 use Rattle.search.proofs.Stepping.{denial_more}
 use Rattle.search.proofs.analyze.analyze.Goals as goal
-use Rattle.search.proofs.analyze.analyze.Goals.{in-Some, in-default}
+use Rattle.search.proofs.analyze.analyze.Goals.{in-Some, in_default}
 
 pub loop-option-init : goal.loop-option-init
 unfolding denial_of
@@ -22,8 +22,8 @@ loop-option-preserved c =
         omega (arith, ap (λ x. x.len) w.clause-is, w.push.ensures.len room, c.loop-option.invariant.0),
         ap literals_of w.clause-is ∙ w.push.ensures.more room ∙ denial_more (trail_of es) i (literals_of c.loop-option.clause) _ c.loop-option.invariant.1 (w.in-Some.ensures ∙ at),
       )
-      | in-default w ↦ (
+      | in_default w ↦ (
         omega (arith, ap (λ x. x.len) w.clause-is, c.loop-option.invariant.0),
-        ap literals_of w.clause-is ∙ sym (append-nil (literals_of c.loop-option.clause)) ∙ denial_more (trail_of es) i (literals_of c.loop-option.clause) [] c.loop-option.invariant.1 (w.in-default.ensures ∙ at),
+        ap literals_of w.clause-is ∙ sym (append-nil (literals_of c.loop-option.clause)) ∙ denial_more (trail_of es) i (literals_of c.loop-option.clause) [] c.loop-option.invariant.1 (w.in_default.ensures ∙ at),
       )
     ]

@@ -15,6 +15,6 @@ pub returns-in-Live : goal.returns-in-Live
 returns-in-Live g c =
     let b = g.B.RuleBank.meaning c.args.b.now in
     let q = asked b (g.B.RuleBank.duties c.args.b.now) c.args.rule c.args.values.now 128 c.requires.known c.requires.long c.requires.small (omega arith) in
-    hears_live b.width c.args.values.now q.1 (b.meets c.args.rule) (b.says c.args.rule (take b.width c.args.values.now)) _ _ c.mark.new.marks c.first-mark.result q.2 q.0
+    hears_live b.width c.args.values.now q.1 (b.meets c.args.rule) (b.says c.args.rule (take b.width c.args.values.now)) _ _ c.mark.new.marks c.first_mark.result q.2 q.0
     (ap Ok (sym c.in-Live.is) ∙ c.in-Ok.ensures.answer) c.in-Ok.ensures.after
-    (subst (λ w. Marked w c.args.values.now c.mark.new.marks c.first-mark.result) c.width.ensures c.first-mark.ensures)
+    (subst (λ w. Marked w c.args.values.now c.mark.new.marks c.first_mark.result) c.width.ensures c.first_mark.ensures)

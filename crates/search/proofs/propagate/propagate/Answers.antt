@@ -44,8 +44,8 @@ loop-age-init g c = ((λ k l. c.loop-rule.invariant k (omega (arith, c.count-rul
 pub clause-requires : goal.clause-requires
 clause-requires g c = omega (arith, c.len-age-end.ensures)
 
-pub ask-learnt-requires : goal.ask-learnt-requires
-ask-learnt-requires g c =
+pub ask_learnt-requires : goal.ask_learnt-requires
+ask_learnt-requires g c =
     let b = g.B.RuleBank.meaning c.args.b.now in
     let L = g.B.RuleBank.duties c.args.b.now in
     let t = trail_of c.args.trail.now.entries in
@@ -54,8 +54,8 @@ ask-learnt-requires g c =
     let st = store_of c.args.learnt.now in
     whole b L t vs made st
 
-pub returns-in-Dead-ask-learnt : goal.returns-in-Dead-ask-learnt
-returns-in-Dead-ask-learnt g c =
+pub returns-in-Dead-ask_learnt : goal.returns-in-Dead-ask_learnt
+returns-in-Dead-ask_learnt g c =
     let b = g.B.RuleBank.meaning c.args.b.now in
     let L = g.B.RuleBank.duties c.args.b.now in
     let t = trail_of c.args.trail.now.entries in
@@ -64,10 +64,10 @@ returns-in-Dead-ask-learnt g c =
     let st = store_of c.args.learnt.now in
     let k = c.loop-age.age in
     let l : k < length st = omega (arith, c.len-age-end.ensures) in
-    record { finds = λ i. dead_learnt b L t vs made st k l (learnt_told b L t vs made st k _ Dead l i c.clause.ensures c.in-Dead-ask-learnt.ensures.hears); safe = tt }
+    record { finds = λ i. dead_learnt b L t vs made st k l (learnt_told b L t vs made st k _ Dead l i c.clause.ensures c.in-Dead-ask_learnt.ensures.hears); safe = tt }
 
-pub returns-in-Marks-ask-learnt : goal.returns-in-Marks-ask-learnt
-returns-in-Marks-ask-learnt g c =
+pub returns-in-Marks-ask_learnt : goal.returns-in-Marks-ask_learnt
+returns-in-Marks-ask_learnt g c =
     let b = g.B.RuleBank.meaning c.args.b.now in
     let L = g.B.RuleBank.duties c.args.b.now in
     let t = trail_of c.args.trail.now.entries in
@@ -76,11 +76,11 @@ returns-in-Marks-ask-learnt g c =
     let st = store_of c.args.learnt.now in
     let k = c.loop-age.age in
     let l : k < length st = omega (arith, c.len-age-end.ensures) in
-    let o = c.in-Marks-ask-learnt.option in
-    let x = c.in-Marks-ask-learnt.value in
+    let o = c.in-Marks-ask_learnt.option in
+    let x = c.in-Marks-ask_learnt.value in
     record {
-      finds = λ i. marks_learnt b L t vs made st k o x l (learnt_told b L t vs made st k _ (Marks o x) l i c.clause.ensures c.in-Marks-ask-learnt.ensures.hears);
-      safe = c.in-Marks-ask-learnt.ensures.safe;
+      finds = λ i. marks_learnt b L t vs made st k o x l (learnt_told b L t vs made st k _ (Marks o x) l i c.clause.ensures c.in-Marks-ask_learnt.ensures.hears);
+      safe = c.in-Marks-ask_learnt.ensures.safe;
     }
 
 pub loop-age-preserved : goal.loop-age-preserved
@@ -93,7 +93,7 @@ loop-age-preserved g c =
     let st = store_of c.args.learnt.now in
     let k = c.loop-age.age in
     let l : k < length st = omega (arith, c.len-age-end.ensures) in
-    (c.loop-age.invariant.0, λ i. below_more _ _ (c.loop-age.invariant.1 i) (learnt_told b L t vs made st k _ Quiet l i c.clause.ensures c.in-Quiet-ask-learnt.ensures.hears))
+    (c.loop-age.invariant.0, λ i. below_more _ _ (c.loop-age.invariant.1 i) (learnt_told b L t vs made st k _ Quiet l i c.clause.ensures c.in-Quiet-ask_learnt.ensures.hears))
 
 pub returns : goal.returns
 returns g c =

@@ -38,22 +38,22 @@ returns-then-steps-budget g c =
       learns = λ ps S. standing_store B ps t s (i.1 ps S).1;
     }
 
-pub returns-then-not-take-step : goal.returns-then-not-take-step
-returns-then-not-take-step g c =
+pub returns-then-not-take_step : goal.returns-then-not-take_step
+returns-then-not-take_step g c =
     let B = g.B.RuleBank.meaning c.args.b.now in
     let a0 = point c.args.trail.now c.args.learnt.now in
     let t = c.loop-next.trail in
     let s = c.loop-next.learnt in
     let n = c.loop-next.steps in
     let i = c.loop-next.invariant in
-    let t' = c.take-step.new.trail in
-    let s' = c.take-step.new.learnt in
+    let t' = c.take_step.new.trail in
+    let s' = c.take_step.new.learnt in
     record {
       searches = λ ps S. ends_none B ps a0 (point t s) n c.args.budget (i.1 ps S).0 i.0 (point t' s') (omega (arith, i.0, c.if-steps-budget.false))
-          (c.if-not-take-step.ensures B ps (g.B.RuleBank.duties c.args.b.now) (sym c.width-width.ensures) (i.1 ps S).1 (c.in-Some.ensures.needs (standing_inside B ps t s (i.1 ps S).1))).0;
-      stands = λ ps S. (c.if-not-take-step.ensures B ps (g.B.RuleBank.duties c.args.b.now) (sym c.width-width.ensures) (i.1 ps S).1 (c.in-Some.ensures.needs (standing_inside B ps t s (i.1 ps S).1))).1;
+          (c.if-not-take_step.ensures B ps (g.B.RuleBank.duties c.args.b.now) (sym c.width-width.ensures) (i.1 ps S).1 (c.in-Some.ensures.needs (standing_inside B ps t s (i.1 ps S).1))).0;
+      stands = λ ps S. (c.if-not-take_step.ensures B ps (g.B.RuleBank.duties c.args.b.now) (sym c.width-width.ensures) (i.1 ps S).1 (c.in-Some.ensures.needs (standing_inside B ps t s (i.1 ps S).1))).1;
       learns = λ ps S. standing_store B ps t' s'
-          (c.if-not-take-step.ensures B ps (g.B.RuleBank.duties c.args.b.now) (sym c.width-width.ensures) (i.1 ps S).1 (c.in-Some.ensures.needs (standing_inside B ps t s (i.1 ps S).1))).1;
+          (c.if-not-take_step.ensures B ps (g.B.RuleBank.duties c.args.b.now) (sym c.width-width.ensures) (i.1 ps S).1 (c.in-Some.ensures.needs (standing_inside B ps t s (i.1 ps S).1))).1;
     }
 
 pub loop-next-preserved : goal.loop-next-preserved
@@ -64,10 +64,10 @@ loop-next-preserved g c =
     let s = c.loop-next.learnt in
     let n = c.loop-next.steps in
     let i = c.loop-next.invariant in
-    let t' = c.take-step.new.trail in
-    let s' = c.take-step.new.learnt in (
+    let t' = c.take_step.new.trail in
+    let s' = c.take_step.new.learnt in (
       omega (arith, i.0, c.if-steps-budget.false),
       λ ps S.
-          (let took = c.if-not-take-step.ensures B ps (g.B.RuleBank.duties c.args.b.now) (sym c.width-width.ensures) (i.1 ps S).1 (c.in-Some.ensures.needs (standing_inside B ps t s (i.1 ps S).1)) in
+          (let took = c.if-not-take_step.ensures B ps (g.B.RuleBank.duties c.args.b.now) (sym c.width-width.ensures) (i.1 ps S).1 (c.in-Some.ensures.needs (standing_inside B ps t s (i.1 ps S).1)) in
           (one_more (quest B ps) n a0 (point t s) (point t' s') (i.1 ps S).0 took.0, took.1)),
     )

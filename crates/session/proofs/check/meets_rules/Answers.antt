@@ -8,15 +8,15 @@ pub loop-rule-init : goal.loop-rule-init
 unfolding meets_first
 loop-rule-init g c = refl
 
-pub returns-then-not-meets-rule : goal.returns-then-not-meets-rule
-returns-then-not-meets-rule g c =
+pub returns-then-not-meets_rule : goal.returns-then-not-meets_rule
+returns-then-not-meets_rule g c =
     let B = g.B.RuleBank.meaning c.args.b.now in
-    sym (meets_not B.rules B.meets (bits (take B.width c.args.build.now)) c.loop-rule.rule (omega (arith, c.count-rule-end.ensures)) (sym c.if-not-meets-rule.ensures))
+    sym (meets_not B.rules B.meets (bits (take B.width c.args.build.now)) c.loop-rule.rule (omega (arith, c.count-rule-end.ensures)) (sym c.if-not-meets_rule.ensures))
 
 pub loop-rule-preserved : goal.loop-rule-preserved
 loop-rule-preserved g c =
     let B = g.B.RuleBank.meaning c.args.b.now in
-    meets_more c.loop-rule.rule B.meets (bits (take B.width c.args.build.now)) c.loop-rule.invariant (sym c.if-not-meets-rule.ensures)
+    meets_more c.loop-rule.rule B.meets (bits (take B.width c.args.build.now)) c.loop-rule.invariant (sym c.if-not-meets_rule.ensures)
 
 pub returns : goal.returns
 returns g c =

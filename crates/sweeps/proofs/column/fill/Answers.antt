@@ -23,7 +23,7 @@ loop-r-preserved g c =
     let bank = c.args.bank.now in
     let long : length c.loop-r.places ≡ length c.args.places.now = simp length-set at c.loop-r.auto.places in
     let room : c.loop-r.r + 2 < length c.loop-r.places = omega arith in (
-      λ n d h. filled_more (node_sum k bank.width bank.rows.now) c.loop-r.places (c.loop-r.r + 2) _ room c.loop-r.invariant.0 c.node-result-result.ensures n d (omega arith),
+      λ n d h. filled_more (node_sum k bank.width bank.rows.now) c.loop-r.places (c.loop-r.r + 2) _ room c.loop-r.invariant.0 c.node_result-result.ensures n d (omega arith),
       drop-set-lt (bank.used + 2) c.loop-r.places (c.loop-r.r + 2) _ (omega arith) ∙ c.loop-r.invariant.1,
     )
 

@@ -10,6 +10,6 @@ returns g c =
     node_turn s.valid k s.laws bank.width bank.rows.now bank.used bank.lawful
     c.args.r c.requires.row c.requires.wide.0 c.requires.wide.1 c.args.column.now c.requires.long c.requires.below
     _ _ _ _ _ _ _ _ _ _ _
-    c.option_of.ensures c.option-of-2.ensures c.index-column-low-node.is c.index-column-high-node.is
-    c.jumped-by-low.ensures c.jumped-by-high.ensures c.index-low-option.is c.index-high-option.is
+    c.option_of.ensures c.option_of-2.ensures c.index-column-low_node.is c.index-column-high_node.is
+    c.jumped-by_low.ensures c.jumped-by_high.ensures c.index-low-option.is c.index-high-option.is
     c.mul.ensures c.mul-2.ensures c.add.ensures

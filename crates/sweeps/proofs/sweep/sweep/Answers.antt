@@ -23,8 +23,8 @@ returns g c =
     let old = c.args.places.now in
     let known : ltb c.args.rule bank.root_count ≡ true = lt-ltb _ _ (omega arith) in
     let inside : root < bank.used + 2 = bank.rooted c.args.rule (omega arith) in
-    let roomy = had_room _ c.in-ok-column.ensures.answer in
-    let after = c.in-ok-column.ensures.after ∙ ap (λ b. column_place b f (bank.used + 2) old) roomy in
+    let roomy = had_room _ c.in_ok-column.ensures.answer in
+    let after = c.in_ok-column.ensures.after ∙ ap (λ b. column_place b f (bank.used + 2) old) roomy in
     let u = option_below w rows bank.used bank.lawful root inside in
     let value : c.jumped.result ≡ _ =
     c.jumped.ensures
@@ -34,5 +34,5 @@ returns g c =
     ∙ whole_sum k w rows bank.used bank.lawful root inside in
     record {
       answer = simp (known, roomy, value);
-      after = simp known c.in-ok-column.ensures.after;
+      after = simp known c.in_ok-column.ensures.after;
     }

@@ -9,10 +9,10 @@ pub returns : goal.returns
 returns c =
     let n = c.args.count in
     let bs = c.args.bytes.now in
-    let r = c.read-fields.result in
+    let r = c.read_fields.result in
     record {
-      value = λ _. read_lined n r (fields n (drop 1 bs)) (c.read-fields.ensures.value ∙ ap (fields n) (take_rest bs 1)) c.read-fields.ensures.fault
+      value = λ _. read_lined n r (fields n (drop 1 bs)) (c.read_fields.ensures.value ∙ ap (fields n) (take_rest bs 1)) c.read_fields.ensures.fault
           ∙ sym (cond-true _ _ _ (le-leb (1 + 6 * n) (length bs) c.if-bytes-count.false));
       many = λ h. absurd (omega arith);
-      long = read_long r c.read-fields.ensures.fault;
+      long = read_long r c.read_fields.ensures.fault;
     }

@@ -7,7 +7,7 @@ use Rattle.texts.proofs.line_fields.read_fields.Goals as goal
 
 pub loop-i-init : goal.loop-i-init
 unfolding fields
-loop-i-init c = (c.no-numbers-numbers.ensures, refl)
+loop-i-init c = (c.no_numbers-numbers.ensures, refl)
 
 pub returns-in-None : goal.returns-in-None
 returns-in-None c =

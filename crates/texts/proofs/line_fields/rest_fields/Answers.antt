@@ -10,10 +10,10 @@ returns c =
     let m = c.args.front in
     let n = c.args.count in
     let bs = c.args.bytes.now in
-    let r = c.read-fields.result in
+    let r = c.read_fields.result in
     record {
-      value = λ _ _. read_lined n r (fields n (drop (1 + 6 * m) bs)) (c.read-fields.ensures.value ∙ ap (fields n) (take_rest bs (1 + 6 * m))) c.read-fields.ensures.fault
+      value = λ _ _. read_lined n r (fields n (drop (1 + 6 * m) bs)) (c.read_fields.ensures.value ∙ ap (fields n) (take_rest bs (1 + 6 * m))) c.read_fields.ensures.fault
           ∙ sym (cond-true _ _ _ (and_from c.args.closed _ c.if-not-closed.false (eq-eqb (length bs) (1 + 6 * (m + n)) c.if-bytes-front.false)));
       many = λ h. absurd (omega arith);
-      long = read_long r c.read-fields.ensures.fault;
+      long = read_long r c.read_fields.ensures.fault;
     }

@@ -41,7 +41,7 @@ loop-place-preserved c =
     let ls = lines_of (drop (next_start p) text) in
     let b = c.in-Some.ensures.bounds in
     let e = c.in-Some.ensures.line in
-    let s : c.after-line-start.result ≡ next_start p = omega arith in (
+    let s : c.after_line-start.result ≡ next_start p = omega arith in (
       omega arith,
       ap (λ k. place_from k (n - 1) (lines_of (drop k text))) s ∙ sym (place_later text p (omega arith) (omega arith) n ls (omega arith)) ∙ ap (λ k. place_from k n (line_at text p ∷ ls)) b.0
           ∙ ap (place_from at n) (sym e) ∙ c.loop-place.invariant.1,
@@ -52,7 +52,7 @@ pub returns : goal.returns
 returns c =
     let at = c.loop-place.start in
     let n = c.loop-place.left in
-    let e = c.in-default.ensures.line in
+    let e = c.in_default.ensures.line in
     record {
       place = sym (place_past at n) ∙ ap (place_from at n) (sym e) ∙ c.loop-place.invariant.1;
       line = sym (numbered_past n) ∙ ap (line_numbered n) (sym e) ∙ c.loop-place.invariant.2;

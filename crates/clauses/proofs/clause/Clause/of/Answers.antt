@@ -4,8 +4,8 @@ use Rattle.clauses.specs.Literals.{numbers}
 use Rattle.clauses.proofs.Literals.{within_at}
 use Rattle.clauses.proofs.clause.Clause.of.Goals as goal
 
-pub overflow-cast-literal : goal.overflow-cast-literal
-overflow-cast-literal c = let h : get_or c.args.literals.now c.loop-i.i 0 / 2 < 128 = within_at 128 c.args.literals.now c.requires.inside c.loop-i.i (omega arith) in omega arith
+pub overflow_cast-literal : goal.overflow_cast-literal
+overflow_cast-literal c = let h : get_or c.args.literals.now c.loop-i.i 0 / 2 < 128 = within_at 128 c.args.literals.now c.requires.inside c.loop-i.i (omega arith) in omega arith
 
 pub loop-i-preserved : goal.loop-i-preserved
 loop-i-preserved c =

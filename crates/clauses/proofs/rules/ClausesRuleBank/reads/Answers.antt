@@ -14,4 +14,4 @@ pub returns : goal.returns
 returns c = λ o h.
     let s = c.args.self.now in
     let e = rule_at s.count s.clauses c.args.rule c.index-self-rule.result (omega arith) (omega arith) in
-    c.«options-of».ensures o h ∙ ap (λ t. names (numbers t) o) c.literals.ensures ∙ ap (λ t. names t o) (sym e)
+    c.options_of.ensures o h ∙ ap (λ t. names (numbers t) o) c.literals.ensures ∙ ap (λ t. names t o) (sym e)

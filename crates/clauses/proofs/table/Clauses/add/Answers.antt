@@ -10,12 +10,12 @@ use Rattle.clauses.proofs.Tables.{rules_push}
 use Rattle.clauses.proofs.Adds.{no_room, has_room, room_left, add_full, add_outside, add_fits}
 use Rattle.clauses.proofs.table.Clauses.add.Goals as goal
 
-pub returns-in-err-room-for : goal.returns-in-err-room-for
-returns-in-err-room-for c =
+pub returns-in_err-room_for : goal.returns-in_err-room_for
+returns-in_err-room_for c =
     let s = c.args.self.now in
     let ls = c.args.literals.now in
-    let p = err_from_is_err_and c.from-residual.result c.from-residual.ensures.1 in
-    let q = no_room s.count (length ls) _ c.in-err-room-for.ensures in
+    let p = err_from_is_err_and c.from_residual.result c.from_residual.ensures.1 in
+    let q = no_room s.count (length ls) _ c.in_err-room_for.ensures in
     let e = add_full s.width s.count ls q.0 in
     record {
       value = ap located p.1 ∙ ap (λ t. Err t) (ap located_of p.2 ∙ q.1) ∙ sym (ap opened e);
@@ -28,7 +28,7 @@ pub returns-then-not-within : goal.returns-then-not-within
 returns-then-not-within c =
     let s = c.args.self.now in
     let ls = c.args.literals.now in
-    let room = has_room s.count (length ls) c.in-ok-room-for.ensures in
+    let room = has_room s.count (length ls) c.in_ok-room_for.ensures in
     let e = add_outside s.width s.count ls room (sym c.if-not-within.ensures) in
     record { value = rw e; width = refl; rules = rw e; kept = λ h. refl }
 
@@ -36,28 +36,27 @@ pub of-requires : goal.of-requires
 of-requires c =
     let s = c.args.self.now in
     let ls = c.args.literals.now in
-    let room = room_left s.count (length ls) (has_room s.count (length ls) c.in-ok-room-for.ensures) in
+    let room = room_left s.count (length ls) (has_room s.count (length ls) c.in_ok-room_for.ensures) in
     record { short = room.1; inside = within_more s.width 128 ls (omega arith) (sym c.if-not-within.ensures) }
 
-pub invariant-of-self : goal.invariant-of-self
-invariant-of-self c =
+pub invariant_of-self : goal.invariant_of-self
+invariant_of-self c =
     let s = c.args.self.now in
     let ls = c.args.literals.now in
-    let room = room_left s.count (length ls) (has_room s.count (length ls) c.in-ok-room-for.ensures) in
+    let room = room_left s.count (length ls) (has_room s.count (length ls) c.in_ok-room_for.ensures) in
     let k : s.count < length s.clauses = omega arith in
-    let e : rules_of _ _ ≡ rules_of s.count s.clauses ++ (ls ∷ []) = rules_push s.count s.clauses c.of.result k ∙ ap (λ t. rules_of s.count s.clauses ++ (t ∷ [])) c.of.ensures in (
-      (omega arith, omega arith, omega arith),
-      (
-        rw e (length_push (rules_of s.count s.clauses) ls ∙ ap (λ n. n + 1) s.counted),
-        (rw e (all_within_push s.width (rules_of s.count s.clauses) ls s.inside (sym c.if-not-within.ensures)), tt),
-      ),
-    )
+    let e : rules_of _ _ ≡ rules_of s.count s.clauses ++ (ls ∷ []) = rules_push s.count s.clauses c.of.result k ∙ ap (λ t. rules_of s.count s.clauses ++ (t ∷ [])) c.of.ensures in
+    record {
+      sized = (omega arith, omega arith, omega arith);
+      counted = rw e (length_push (rules_of s.count s.clauses) ls ∙ ap (λ n. n + 1) s.counted);
+      inside = rw e (all_within_push s.width (rules_of s.count s.clauses) ls s.inside (sym c.if-not-within.ensures));
+    }
 
 pub returns : goal.returns
 returns c =
     let s = c.args.self.now in
     let ls = c.args.literals.now in
-    let many = has_room s.count (length ls) c.in-ok-room-for.ensures in
+    let many = has_room s.count (length ls) c.in_ok-room_for.ensures in
     let room = room_left s.count (length ls) many in
     let k : s.count < length s.clauses = omega arith in
     let e = add_fits s.width s.count ls many (sym c.if-not-within.ensures) in

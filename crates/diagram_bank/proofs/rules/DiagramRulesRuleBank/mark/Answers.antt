@@ -11,12 +11,12 @@ returns c =
     let table = c.args.self.now.table.now in
     let w = table.width in
     let meets = rule_meets table.rows.now table.roots in
-    let ready = c.in-default.ensures.ready in
+    let ready = c.in_default.ensures.ready in
     let v : List ℕ = c.args.values.now in
     let old : List ℕ = c.args.marks.now in
     let whole : w - 0 ≡ w = omega arith in
     let long : w ≡ length (take (w - 0) v) = rw whole (sym (length-take-le w v ready.long)) in
     let says : ℕ → Said = λ n. answer_of n (meets c.args.rule) (take (w - 0) v) in
-    let r = exact_marked w table.root_count meets c.args.rule (heard (says (length (take (w - 0) v)))) v old c.mark-rule.new.marks
-    c.in-default.ensures.value ready refl (c.mark-rule.ensures.after ∙ ap (λ n. noted (says n) (take (w - 0) old)) long) in
-    record { answer = c.mark-rule.ensures.value ∙ ap (λ n. Ok (heard (says n))) long ∙ r.0; after = r.1 }
+    let r = exact_marked w table.root_count meets c.args.rule (heard (says (length (take (w - 0) v)))) v old c.mark_rule.new.marks
+    c.in_default.ensures.value ready refl (c.mark_rule.ensures.after ∙ ap (λ n. noted (says n) (take (w - 0) old)) long) in
+    record { answer = c.mark_rule.ensures.value ∙ ap (λ n. Ok (heard (says n))) long ∙ r.0; after = r.1 }

@@ -33,9 +33,9 @@ returns-then-self-node c =
 pub returns : goal.returns
 unfolding root_cause
 returns c =
-    let p = c.put-root.ensures in
+    let p = c.put_root.ensures in
     let before = c.args.self.now in
-    let after = c.put-root.new.self in
+    let after = c.put_root.new.self in
     let room : before.root_count < length before.roots = omega (arith, p.long) in
     record {
       answer =

@@ -6,25 +6,17 @@ use Rattle.diagrams.proofs.table.Diagrams.add_row.Goals as goal
 
 pub bounds-self-at : goal.bounds-self-at
 bounds-self-at c =
-    let (room, new) = clear_row _ _ _ _ _ _ (sym c.in-ok-check-row.ensures) in omega (arith, room)
+    let (room, new) = clear_row _ _ _ _ _ _ (sym c.in_ok-check_row.ensures) in omega (arith, room)
 
-pub invariant-of-self : goal.invariant-of-self
-invariant-of-self c =
+pub invariant_of-self : goal.invariant_of-self
+invariant_of-self c =
     let table = c.args.self.now in
-    let (room, new) = clear_row _ _ _ _ _ _ (sym c.in-ok-check-row.ensures) in (
-      (table.sized.0, table.sized.1, omega (arith, room), table.sized.3),
-      (
-        simp length-set (omega (arith, room)),
-        (
-          lawful_more table.width table.rows.now table.used c.args.row (omega (arith, room)) new table.lawful,
-          (
-            (λ i h. let z = table.rooted i h in omega arith),
-            (
-              reaching_kept table.width table.rows.now _ table.used table.lawful (row_others table.rows.now table.used c.args.row)
-                  table.roots table.root_count table.rooted table.reached,
-              tt,
-            ),
-          ),
-        ),
-      ),
-    )
+    let (room, new) = clear_row _ _ _ _ _ _ (sym c.in_ok-check_row.ensures) in
+    record {
+      sized = (table.sized.0, table.sized.1, omega (arith, room), table.sized.3);
+      within = simp length-set (omega (arith, room));
+      lawful = lawful_more table.width table.rows.now table.used c.args.row (omega (arith, room)) new table.lawful;
+      rooted = λ i h. let z = table.rooted i h in omega arith;
+      reached = reaching_kept table.width table.rows.now _ table.used table.lawful (row_others table.rows.now table.used c.args.row)
+          table.roots table.root_count table.rooted table.reached;
+    }

@@ -16,22 +16,22 @@ returns-then-self-row c =
     sym (then_goes_on _ _ _ (at_passed TooMany _ _ (lt-leb _ _ room))
     ∙ then_stops _ _ _ (at_found OptionTooLarge _ _ (le-leb _ _ c.if-self-row.true)))
 
-pub returns-then-arrow-fails : goal.returns-then-arrow-fails
+pub returns-then-arrow_fails : goal.returns-then-arrow_fails
 unfolding row_cause
-returns-then-arrow-fails c =
+returns-then-arrow_fails c =
     let room : c.args.self.now.used < room_of c.args.self.now.rows.now = omega arith in
     sym (then_goes_on _ _ _ (at_passed TooMany _ _ (lt-leb _ _ room))
     ∙ then_goes_on _ _ _ (at_passed OptionTooLarge _ _ (lt-leb _ _ c.if-self-row.false))
-    ∙ then_stops _ _ _ (at_found ArrowNotDown _ _ (sym c.if-arrow-fails.ensures)))
+    ∙ then_stops _ _ _ (at_found ArrowNotDown _ _ (sym c.if-arrow_fails.ensures)))
 
-pub returns-then-child-fails : goal.returns-then-child-fails
+pub returns-then-child_fails : goal.returns-then-child_fails
 unfolding row_cause
-returns-then-child-fails c =
+returns-then-child_fails c =
     let room : c.args.self.now.used < room_of c.args.self.now.rows.now = omega arith in
     sym (then_goes_on _ _ _ (at_passed TooMany _ _ (lt-leb _ _ room))
     ∙ then_goes_on _ _ _ (at_passed OptionTooLarge _ _ (lt-leb _ _ c.if-self-row.false))
-    ∙ then_goes_on _ _ _ (at_passed ArrowNotDown _ _ (sym c.if-arrow-fails.ensures))
-    ∙ at_found ChildNotLater _ _ (sym c.if-child-fails.ensures))
+    ∙ then_goes_on _ _ _ (at_passed ArrowNotDown _ _ (sym c.if-arrow_fails.ensures))
+    ∙ at_found ChildNotLater _ _ (sym c.if-child_fails.ensures))
 
 pub returns : goal.returns
 unfolding row_cause
@@ -39,5 +39,5 @@ returns c =
     let room : c.args.self.now.used < room_of c.args.self.now.rows.now = omega arith in
     sym (then_goes_on _ _ _ (at_passed TooMany _ _ (lt-leb _ _ room))
     ∙ then_goes_on _ _ _ (at_passed OptionTooLarge _ _ (lt-leb _ _ c.if-self-row.false))
-    ∙ then_goes_on _ _ _ (at_passed ArrowNotDown _ _ (sym c.if-arrow-fails.ensures))
-    ∙ at_passed ChildNotLater _ _ (sym c.if-child-fails.ensures))
+    ∙ then_goes_on _ _ _ (at_passed ArrowNotDown _ _ (sym c.if-arrow_fails.ensures))
+    ∙ at_passed ChildNotLater _ _ (sym c.if-child_fails.ensures))

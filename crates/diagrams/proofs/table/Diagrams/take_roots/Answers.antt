@@ -9,9 +9,9 @@ pub loop-i-preserved : goal.loop-i-preserved
 loop-i-preserved c =
     let given = c.args.roots.now in
     let before = c.loop-i.self in
-    let after = c.put-root.new.self in
-    let room : before.root_count < length before.roots = omega (arith, c.put-root.ensures.long) in
-    let p = c.put-root.ensures in (
+    let after = c.put_root.new.self in
+    let room : before.root_count < length before.roots = omega (arith, c.put_root.ensures.long) in
+    let p = c.put_root.ensures in (
       p.kept.0 ∙ c.loop-i.invariant.0,
       p.kept.1 ∙ c.loop-i.invariant.1,
       p.kept.2 ∙ c.loop-i.invariant.2,

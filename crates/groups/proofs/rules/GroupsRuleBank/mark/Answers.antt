@@ -8,11 +8,11 @@ use Rattle.groups.specs.Table.{groups_of, rule_of}
 use Rattle.groups.proofs.Stored.{group_at, groups_long, within_at}
 use Rattle.groups.proofs.rules.GroupsRuleBank.mark.Goals as goal
 
-pub mark-group-requires : goal.mark-group-requires
-mark-group-requires c =
+pub mark_group-requires : goal.mark_group-requires
+mark_group-requires c =
     let s = c.args.self.now in
     let f = c.fits-self in
-    let o = c.in-default.ensures.ready in
+    let o = c.in_default.ensures.ready in
     let rule = c.args.rule in
     let gs = groups_of s.count s.groups in
     let g = get_or s.groups rule c.index-self-rule.result in
@@ -36,7 +36,7 @@ pub returns : goal.returns
 returns c =
     let s = c.args.self.now in
     let f = c.fits-self in
-    let o = c.in-default.ensures.ready in
+    let o = c.in_default.ensures.ready in
     let rule = c.args.rule in
     let values = c.args.values.now in
     let gs = groups_of s.count s.groups in
@@ -45,10 +45,10 @@ returns c =
     let y : g.len - 0 ≡ g.len = omega arith in
     let e : rule_of g ≡ get_or gs rule no_rule = sym (group_at s.count s.groups rule c.index-self-rule.result n o.known) in
     let v = take (s.width - 0) values in
-    let h : c.mark-group.result ≡ heard (answer_of (length v) (rule_meets (get_or gs rule no_rule)) v) =
-    subst (λ (t : Rule). c.mark-group.result ≡ heard (answer_of (length v) (rule_meets t) v)) e (rw y at c.mark-group.ensures.value) in
-    let i : c.mark-group.new.marks ≡ noted (answer_of (length v) (rule_meets (get_or gs rule no_rule)) v) (take (s.width - 0) c.args.marks.now) =
-    subst (λ (t : Rule). c.mark-group.new.marks ≡ noted (answer_of (length v) (rule_meets t) v) (take (s.width - 0) c.args.marks.now)) e (rw y at c.mark-group.ensures.after) in
-    let r = exact_marked s.width s.count (λ r. rule_meets (get_or gs r no_rule)) rule c.mark-group.result values c.args.marks.now c.mark-group.new.marks
-    c.in-default.ensures.value o h i in
+    let h : c.mark_group.result ≡ heard (answer_of (length v) (rule_meets (get_or gs rule no_rule)) v) =
+    subst (λ (t : Rule). c.mark_group.result ≡ heard (answer_of (length v) (rule_meets t) v)) e (rw y at c.mark_group.ensures.value) in
+    let i : c.mark_group.new.marks ≡ noted (answer_of (length v) (rule_meets (get_or gs rule no_rule)) v) (take (s.width - 0) c.args.marks.now) =
+    subst (λ (t : Rule). c.mark_group.new.marks ≡ noted (answer_of (length v) (rule_meets t) v) (take (s.width - 0) c.args.marks.now)) e (rw y at c.mark_group.ensures.after) in
+    let r = exact_marked s.width s.count (λ r. rule_meets (get_or gs r no_rule)) rule c.mark_group.result values c.args.marks.now c.mark_group.new.marks
+    c.in_default.ensures.value o h i in
     record { answer = r.0; after = r.1 }

@@ -14,6 +14,6 @@ returns c = λ o l.
     let n : s.count ≤ length s.groups = omega arith in
     let k : rule < s.count = omega arith in
     let y : g.len - 0 ≡ g.len = omega arith in
-    c.set-of.ensures o l ∙ ap (λ t. among (take t g.options) o) y
+    c.set_of.ensures o l ∙ ap (λ t. among (take t g.options) o) y
     ∙ ap (λ (t : Rule). among t.options o) (sym (group_at s.count s.groups rule c.index-self-rule.result n k))
     ∙ ap (λ t. t && among (get_or gs rule no_rule).options o) (sym (lt-ltb rule s.count k))

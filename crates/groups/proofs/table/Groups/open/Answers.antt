@@ -21,34 +21,35 @@ returns-in-Some c =
     let gs = map told c.args.groups.now in
     record { answer = ap replied (c.in-Some.ensures ∙ sym (open_good w gs (omega arith) (omega arith))); bank = refl }
 
-pub stored-all-table-requires : goal.stored-all-table-requires
-stored-all-table-requires c =
+pub stored_all-table-requires : goal.stored_all-table-requires
+stored_all-table-requires c =
     let w = c.args.width in
     let gs = map told c.args.groups.now in
     let n : length gs ≡ length c.args.groups.now = length-map c.args.groups.now told in
     let narrow : w ≤ 128 = omega arith in
-    let none = sym c.in-default.ensures in
+    let none = sym c.in_default.ensures in
     record {
       few = omega (arith, n, causes_few w gs narrow none);
       fair = λ k l. causes_fair w gs narrow none k (omega arith);
     }
 
-pub invariant-of-self : goal.invariant-of-self
-invariant-of-self c =
+pub invariant_of-self : goal.invariant_of-self
+invariant_of-self c =
     let w = c.args.width in
     let gs = map told c.args.groups.now in
     let n : length gs ≡ length c.args.groups.now = length-map c.args.groups.now told in
     let narrow : w ≤ 128 = omega arith in
-    let none = sym c.in-default.ensures in (
-      (omega arith, narrow, omega (arith, n, causes_few w gs narrow none)),
-      (rw c.stored-all-table.ensures (within_from w gs (causes_below w gs narrow none)), tt),
-    )
+    let none = sym c.in_default.ensures in
+    record {
+      sized = (omega arith, narrow, omega (arith, n, causes_few w gs narrow none));
+      within = rw c.stored_all-table.ensures (within_from w gs (causes_below w gs narrow none));
+    }
 
 pub returns : goal.returns
 returns c =
     let w = c.args.width in
     let gs = map told c.args.groups.now in
     record {
-      answer = ap replied (c.in-default.ensures ∙ sym (open_good w gs (omega arith) (omega arith)));
-      bank = record { width = refl; count = sym (length-map c.args.groups.now told); groups = c.stored-all-table.ensures };
+      answer = ap replied (c.in_default.ensures ∙ sym (open_good w gs (omega arith) (omega arith)));
+      bank = record { width = refl; count = sym (length-map c.args.groups.now told); groups = c.stored_all-table.ensures };
     }

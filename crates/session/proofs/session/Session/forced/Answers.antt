@@ -21,14 +21,14 @@ use Rattle.session.proofs.session.Session.forced.Goals as goal
 pub returns-in-NoBuild : goal.returns-in-NoBuild
 returns-in-NoBuild g c =
     let s = c.args.self.now in
-    let s' = c.search-with-first.new.self in
+    let s' = c.search_with-first.new.self in
     let B = g.B.RuleBank.meaning s.bank in
     let o = c.args.option in
     let budget = c.args.budget in
-    let x = c.search-with-first.ensures in
-    let n = c.search-with-first.result.1 in
+    let x = c.search_with-first.ensures in
+    let n = c.search_with-first.result.1 in
     let ho : o < B.width = omega (arith, c.width.ensures) in
-    let hb : budget ≤ 2 ^ 62 = c.if-budget-gt-MOST-STEPS.false in
+    let hb : budget ≤ 2 ^ 62 = c.if-budget-gt-MOST_STEPS.false in
     let D : Stands B s → Does B (state_of s) (forced o budget) (no_build n) (state_of s') = λ h.
     forced_none B (state_of s) (state_of s') o budget n ho hb
     (subst (λ e. Search (quest B s.picks) budget (start s.picks (store_of s.learnt)) n (point s'.trail s'.learnt) (end_of B.width (trail_of s'.trail.entries) e)) c.in-NoBuild.is (x.searches h.ok.learnt))
@@ -46,14 +46,14 @@ returns-in-NoBuild g c =
 pub returns-in-Spent : goal.returns-in-Spent
 returns-in-Spent g c =
     let s = c.args.self.now in
-    let s' = c.search-with-first.new.self in
+    let s' = c.search_with-first.new.self in
     let B = g.B.RuleBank.meaning s.bank in
     let o = c.args.option in
     let budget = c.args.budget in
-    let x = c.search-with-first.ensures in
-    let n = c.search-with-first.result.1 in
+    let x = c.search_with-first.ensures in
+    let n = c.search_with-first.result.1 in
     let ho : o < B.width = omega (arith, c.width.ensures) in
-    let hb : budget ≤ 2 ^ 62 = c.if-budget-gt-MOST-STEPS.false in
+    let hb : budget ≤ 2 ^ 62 = c.if-budget-gt-MOST_STEPS.false in
     let D : Stands B s → Does B (state_of s) (forced o budget) (spent n) (state_of s') = λ h.
     forced_spent B (state_of s) (state_of s') o budget n ho hb
     (subst (λ e. Search (quest B s.picks) budget (start s.picks (store_of s.learnt)) n (point s'.trail s'.learnt) (end_of B.width (trail_of s'.trail.entries) e)) c.in-Spent.is (x.searches h.ok.learnt))
@@ -71,14 +71,14 @@ returns-in-Spent g c =
 pub returns-then-picks-option-lt2 : goal.returns-then-picks-option-lt2
 returns-then-picks-option-lt2 g c =
     let s = c.args.self.now in
-    let s' = c.search-with-first.new.self in
+    let s' = c.search_with-first.new.self in
     let B = g.B.RuleBank.meaning s.bank in
     let o = c.args.option in
     let budget = c.args.budget in
-    let x = c.search-with-first.ensures in
-    let n = c.search-with-first.result.1 in
+    let x = c.search_with-first.ensures in
+    let n = c.search_with-first.result.1 in
     let ho : o < B.width = omega (arith, c.width.ensures) in
-    let hb : budget ≤ 2 ^ 62 = c.if-budget-gt-MOST-STEPS.false in
+    let hb : budget ≤ 2 ^ 62 = c.if-budget-gt-MOST_STEPS.false in
     let long : length s.picks ≡ 128 = search rules in
     let d : B.width ≤ 128 = (g.B.RuleBank.duties s.bank).narrow in
     let β = read B.width (trail_of s'.trail.entries) in
@@ -102,17 +102,17 @@ returns-then-picks-option-lt2 g c =
 pub returns-else-picks-option-lt2 : goal.returns-else-picks-option-lt2
 returns-else-picks-option-lt2 g c =
     let s = c.args.self.now in
-    let m = c.search-with-first.new.self in
-    let s' = c.search-with-second.new.self in
+    let m = c.search_with-first.new.self in
+    let s' = c.search_with-second.new.self in
     let B = g.B.RuleBank.meaning s.bank in
     let o = c.args.option in
     let budget = c.args.budget in
-    let x = c.search-with-first.ensures in
-    let y = c.search-with-second.ensures in
-    let n = c.search-with-first.result.1 in
-    let k = c.search-with-second.result.1 in
+    let x = c.search_with-first.ensures in
+    let y = c.search_with-second.ensures in
+    let n = c.search_with-first.result.1 in
+    let k = c.search_with-second.result.1 in
     let ho : o < B.width = omega (arith, c.width.ensures) in
-    let hb : budget ≤ 2 ^ 62 = c.if-budget-gt-MOST-STEPS.false in
+    let hb : budget ≤ 2 ^ 62 = c.if-budget-gt-MOST_STEPS.false in
     let long : length s.picks ≡ 128 = search rules in
     let d : B.width ≤ 128 = (g.B.RuleBank.duties s.bank).narrow in
     let t = trail_of m.trail.entries in
@@ -121,16 +121,16 @@ returns-else-picks-option-lt2 g c =
     let hv : v ≡ bit (read B.width t) o = taken_bit B.width t o c.value-taken.result ho c.value-taken.ensures in
     let first : Stands B s → Builds (quest B s.picks) budget (start s.picks (store_of s.learnt)) n (point m.trail m.learnt) (read B.width t) = λ h.
     subst (λ e. Search (quest B s.picks) budget (start s.picks (store_of s.learnt)) n (point m.trail m.learnt) (end_of B.width t e)) c.in-Build.is (x.searches h.ok.learnt) in
-    let second : Stands B s → Search (quest B ps) c.saturating-sub.result (start ps (store_of m.learnt)) k (point s'.trail s'.learnt) (end_of B.width (trail_of s'.trail.entries) c.search-with-second.result.0) = λ h.
+    let second : Stands B s → Search (quest B ps) c.saturating_sub.result (start ps (store_of m.learnt)) k (point s'.trail s'.learnt) (end_of B.width (trail_of s'.trail.entries) c.search_with-second.result.0) = λ h.
     subst
-    (λ b. StoreSound (g.B.RuleBank.meaning b) (store_of m.learnt) → Search (quest (g.B.RuleBank.meaning b) ps) c.saturating-sub.result (start ps (store_of m.learnt)) k (point s'.trail s'.learnt) (end_of (g.B.RuleBank.meaning b).width (trail_of s'.trail.entries) c.search-with-second.result.0))
+    (λ b. StoreSound (g.B.RuleBank.meaning b) (store_of m.learnt) → Search (quest (g.B.RuleBank.meaning b) ps) c.saturating_sub.result (start ps (store_of m.learnt)) k (point s'.trail s'.learnt) (end_of (g.B.RuleBank.meaning b).width (trail_of s'.trail.entries) c.search_with-second.result.0))
     x.bank y.searches (x.learns h.ok.learnt) in
     let p : s'.picks ≡ s.picks = y.picks ∙ x.picks in
-    let f = c.by-second.result in
-    let total = c.saturating-add.result in
+    let f = c.by_second.result in
+    let total = c.saturating_add.result in
     let D : Stands B s → Does B (state_of s) (forced o budget) (force_reply f total) (state_of s') = λ h.
-    forced_both B (state_of s) (state_of s') (point m.trail m.learnt) o budget n k c.saturating-sub.result total v (trail_of s'.trail.entries) c.search-with-second.result.0 f
-    ho hb (unpicked_at s.picks o (omega arith) c.if-picks-option-lt2.false) hv c.saturating-sub.ensures c.saturating-add.ensures c.by-second.ensures (first h) (second h) p y.searching in
+    forced_both B (state_of s) (state_of s') (point m.trail m.learnt) o budget n k c.saturating_sub.result total v (trail_of s'.trail.entries) c.search_with-second.result.0 f
+    ho hb (unpicked_at s.picks o (omega arith) c.if-picks-option-lt2.false) hv c.saturating_sub.ensures c.saturating_add.ensures c.by_second.ensures (first h) (second h) p y.searching in
     record {
       refusal = rw (lt-leb B.width o ho, le-ltb (2 ^ 62) budget hb) refl;
       refused = tt;

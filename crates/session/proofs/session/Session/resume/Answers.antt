@@ -15,17 +15,17 @@ use Rattle.session.proofs.session.Session.resume.Goals as goal
 pub returns : goal.returns
 returns g c =
     let s = c.args.self.now in
-    let s' = c.search-on.new.self in
+    let s' = c.search_on.new.self in
     let B = g.B.RuleBank.meaning s.bank in
     let budget = c.args.budget in
     let old = c.args.place.now in
-    let new = c.search-on.new.place in
-    let v = c.search-on.result.verdict in
-    let n = c.search-on.result.steps in
-    let x = c.search-on.ensures in
+    let new = c.search_on.new.place in
+    let v = c.search_on.result.verdict in
+    let n = c.search_on.result.steps in
+    let x = c.search_on.ensures in
     let β = read B.width (trail_of s'.trail.entries) in
     let l : length β ≡ B.width = length_read B.width 0 (trail_of s'.trail.entries) in
-    let hb : budget ≤ 2 ^ 62 = c.if-budget-gt-MOST-STEPS.false in
+    let hb : budget ≤ 2 ^ 62 = c.if-budget-gt-MOST_STEPS.false in
     let hr : B.width ≤ length old = omega (arith, c.width.ensures) in
     let hs : s.searching ≡ true = c.if-not-self.false in
     let S : Stands B s → Standing B s.picks s.trail s.learnt = λ h. h.standing hs in

@@ -10,8 +10,8 @@ returns-then-age-self c =
     let s = c.args.self.now in
     sym (get_or_past (ring s.count s.next s.clauses) c.args.age [] (omega (arith, ring_length s.count s.next s.clauses)))
 
-pub overflow-sub-self : goal.overflow-sub-self
-overflow-sub-self c = let s = c.args.self.now in omega (arith, s.sized.0)
+pub overflow_sub-self : goal.overflow_sub-self
+overflow_sub-self c = let s = c.args.self.now in omega (arith, s.sized.0)
 
 pub returns : goal.returns
 returns c =

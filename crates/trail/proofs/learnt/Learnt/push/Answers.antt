@@ -6,4 +6,4 @@ pub returns : goal.returns
 returns c =
     let s = c.args.self.now in
     let n : length s.clauses ≡ 192 = search rules in
-    ring_push s.count s.next c.one-more-self.result s.clauses c.args.clause s.sized.0 s.sized.1 n c.one-more-self.ensures
+    ring_push s.count s.next c.one_more-self.result s.clauses c.args.clause s.sized.0 s.sized.1 n c.one_more-self.ensures

@@ -11,8 +11,8 @@ loop-option-preserved c =
     let ps = c.args.picks.now in
     let n : length es ≡ 128 = c.loop-option.invariant.0 in
     let m : length ps ≡ 128 = search rules in (
-      length-set es i c.of-pick.result ∙ n,
-      take_more_set es i c.of-pick.result (omega arith) ∙ ap (λ z. z ++ (c.of-pick.result ∷ [])) c.loop-option.invariant.1 ∙ ap (λ z. map start_row (take i ps) ++ (z ∷ [])) c.of-pick.ensures
+      length-set es i c.of_pick.result ∙ n,
+      take_more_set es i c.of_pick.result (omega arith) ∙ ap (λ z. z ++ (c.of_pick.result ∷ [])) c.loop-option.invariant.1 ∙ ap (λ z. map start_row (take i ps) ++ (z ∷ [])) c.of_pick.ensures
           ∙ sym (map_more start_row ps i 0 (omega arith)),
     )
 

@@ -26,13 +26,13 @@ pub(crate) fn mark_part<B: RuleBank>(
     values: &[u8],
     marks: &mut [u8],
 ) -> Answer
-    requires inside { start + (meaning b.now).width ≤ w }
+    requires inside { start + (B.meaning b.now).width ≤ w }
     requires long { w ≤ length values.now }
     requires room { w ≤ length marks.old }
-    requires known { rule < (meaning b.now).rules }
+    requires known { rule < (B.meaning b.now).rules }
     requires small { up_to 2 (take w values.now) ≡ true }
-    ensures value { result ≡ heard (part_says start (meaning b.now).width ((meaning b.now).says rule) (take w values.now)) }
-    ensures after { marks.new ≡ noted (part_says start (meaning b.now).width ((meaning b.now).says rule) (take w values.now)) marks.old }
+    ensures value { result ≡ heard (part_says start (B.meaning b.now).width ((B.meaning b.now).says rule) (take w values.now)) }
+    ensures after { marks.new ≡ noted (part_says start (B.meaning b.now).width ((B.meaning b.now).says rule) (take w values.now)) marks.old }
 {
     let end = start + b.width();
     match b.mark(rule, &values[start..end], &mut marks[start..end]) {

@@ -31,7 +31,7 @@ impl<B> Shift<B> {
 impl<B: RuleBank> Shift<B> {
     // The option at which the bank's options begin.
     fn start(&self) -> usize
-        ensures { result ≡ shift_at self.now.by (meaning self.now.bank) }
+        ensures { result ≡ shift_at self.now.by (B.meaning self.now.bank) }
     {
         self.by.min(128 - self.bank.width())
     }

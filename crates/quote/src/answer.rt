@@ -13,11 +13,11 @@ use session::session::Session;
 
 // Tells a session without picks all of these.
 fn tell<B: RuleBank>(session: &mut Session<B>, picks: &[u8; 128])
-    requires picks { PicksOk (meaning session.old.bank) picks.now }
+    requires picks { PicksOk (B.meaning session.old.bank) picks.now }
     requires none { session.old.picks ≡ no_picks }
     ensures bank { session.new.bank ≡ session.old.bank }
     ensures picks { session.new.picks ≡ picks.now }
-    ensures kept { Stands (meaning session.old.bank) session.old → Stands (meaning session.old.bank) session.new }
+    ensures kept { Stands (B.meaning session.old.bank) session.old → Stands (B.meaning session.old.bank) session.new }
 {
     for option in 0..128 {
         if picks[option] < 2 {
@@ -34,10 +34,10 @@ pub(crate) fn answer<B: RuleBank + Drop>(
     budget: u64,
     listing: &mut [u8],
 ) -> usize
-    requires picks { PicksOk (meaning b) picks.now }
+    requires picks { PicksOk (B.meaning b) picks.now }
     requires budget { budget ≤ 2 ^ 62 }
     requires room { 1792 ≤ length listing.old }
-    ensures { Answered (meaning b) picks.now budget listing.old result listing.new }
+    ensures { Answered (B.meaning b) picks.now budget listing.old result listing.new }
 {
     let width = b.width();
     let mut session = Session::new(b);

@@ -66,8 +66,8 @@ fn blank() -> [u8; 128]
 
 // Completes into a place of its own. No bank has more than 128 options, so more room than that is as good as 128.
 fn complete<B: RuleBank>(session: &mut Session<B>, budget: u64, room: usize) -> Reply
-    ensures does { Stands (meaning session.old.bank) session.old → Does (meaning session.old.bank) (state_of session.old) (complete_call budget room) (reply_of (meaning session.old.bank).width result) (state_of session.new) }
-    ensures kept { Stands (meaning session.old.bank) session.old → Stands (meaning session.old.bank) session.new }
+    ensures does { Stands (B.meaning session.old.bank) session.old → Does (B.meaning session.old.bank) (state_of session.old) (complete_call budget room) (reply_of (B.meaning session.old.bank).width result) (state_of session.new) }
+    ensures kept { Stands (B.meaning session.old.bank) session.old → Stands (B.meaning session.old.bank) session.new }
     ensures bank { session.new.bank ≡ session.old.bank }
 {
     let mut place = blank();
@@ -78,8 +78,8 @@ fn complete<B: RuleBank>(session: &mut Session<B>, budget: u64, room: usize) -> 
 
 // Goes on with the open search in the same way.
 fn resume<B: RuleBank>(session: &mut Session<B>, budget: u64, room: usize) -> Reply
-    ensures does { Stands (meaning session.old.bank) session.old → Does (meaning session.old.bank) (state_of session.old) (continue_call budget room) (reply_of (meaning session.old.bank).width result) (state_of session.new) }
-    ensures kept { Stands (meaning session.old.bank) session.old → Stands (meaning session.old.bank) session.new }
+    ensures does { Stands (B.meaning session.old.bank) session.old → Does (B.meaning session.old.bank) (state_of session.old) (continue_call budget room) (reply_of (B.meaning session.old.bank).width result) (state_of session.new) }
+    ensures kept { Stands (B.meaning session.old.bank) session.old → Stands (B.meaning session.old.bank) session.new }
     ensures bank { session.new.bank ≡ session.old.bank }
 {
     let mut place = blank();
@@ -90,8 +90,8 @@ fn resume<B: RuleBank>(session: &mut Session<B>, budget: u64, room: usize) -> Re
 
 // Performs one call.
 fn perform<B: RuleBank>(session: &mut Session<B>, call: Call) -> Reply
-    ensures does { Stands (meaning session.old.bank) session.old → Does (meaning session.old.bank) (state_of session.old) (call_of call) (reply_of (meaning session.old.bank).width result) (state_of session.new) }
-    ensures kept { Stands (meaning session.old.bank) session.old → Stands (meaning session.old.bank) session.new }
+    ensures does { Stands (B.meaning session.old.bank) session.old → Does (B.meaning session.old.bank) (state_of session.old) (call_of call) (reply_of (B.meaning session.old.bank).width result) (state_of session.new) }
+    ensures kept { Stands (B.meaning session.old.bank) session.old → Stands (B.meaning session.old.bank) session.new }
     ensures bank { session.new.bank ≡ session.old.bank }
 {
     match call {
@@ -115,9 +115,9 @@ pub fn replay<B: RuleBank + Drop>(
     replies: &mut [Reply],
 ) -> Result<(), Refusal>
     ensures refusal { cause_of result ≡ (if nat_le (length calls.now) (length replies.old) then None else Some 8) }
-    ensures run { MatchResult result (λ _. Replayed (meaning bank) calls.now replies.new) (λ _. replies.new ≡ replies.old) }
+    ensures run { MatchResult result (λ _. Replayed (B.meaning bank) calls.now replies.new) (λ _. replies.new ≡ replies.old) }
     ensures rest { drop (length calls.now) replies.new ≡ drop (length calls.now) replies.old }
-    ensures law { AnswersRight (meaning bank) × Finishes (meaning bank) × SameAnswers (meaning bank) }
+    ensures law { AnswersRight (B.meaning bank) × Finishes (B.meaning bank) × SameAnswers (B.meaning bank) }
 {
     if replies.len() < calls.len() {
         return Err(Refusal::ShortPlace);

@@ -49,10 +49,10 @@ fn first_mark(values: &[u8], marks: &[u8], width: usize) -> Heard
 
 // What a rule of the bank says. It is asked once; the rule and the tables are whole, so it is not refused.
 fn ask<B: RuleBank>(b: &B, rule: usize, values: &[u8]) -> Heard
-    requires known { rule < (meaning b.now).rules }
+    requires known { rule < (B.meaning b.now).rules }
     requires long { 128 ≤ length values.now }
-    requires small { up_to 2 (take (meaning b.now).width values.now) ≡ true }
-    ensures { Hears (meaning b.now).width (take (meaning b.now).width values.now) ((meaning b.now).says rule (take (meaning b.now).width values.now)) result }
+    requires small { up_to 2 (take (B.meaning b.now).width values.now) ≡ true }
+    ensures { Hears (B.meaning b.now).width (take (B.meaning b.now).width values.now) ((B.meaning b.now).says rule (take (B.meaning b.now).width values.now)) result }
 {
     let mut marks = [2u8; 128];
     match b.mark(rule, values, &mut marks) {
@@ -79,7 +79,7 @@ fn ask_learnt(literals: &[Literal], values: &[u8]) -> Heard
 
 // What the rules say of the trail.
 pub fn propagate<B: RuleBank>(b: &B, trail: &Trail, learnt: &Learnt) -> Found
-    ensures finds { AllInside (meaning b.now).width (store_of learnt.now) → Finds (meaning b.now) (store_of learnt.now) (trail_of trail.now.entries) result }
+    ensures finds { AllInside (B.meaning b.now).width (store_of learnt.now) → Finds (B.meaning b.now) (store_of learnt.now) (trail_of trail.now.entries) result }
     ensures safe { FoundSafe result }
 {
     let values = trail.values();

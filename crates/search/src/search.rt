@@ -20,10 +20,10 @@ pub enum End {
 
 // Goes on with the search for at most `budget` steps; how it ended, and how many steps it took. The conflict that ends it is a step too.
 pub fn search<B: RuleBank>(b: &B, trail: &mut Trail, learnt: &mut Learnt, budget: u64) -> (End, u64)
-    ensures searches { (ps : List ℕ) → Standing (meaning b.now) ps trail.old learnt.old
-        → Search (quest (meaning b.now) ps) budget (point trail.old learnt.old) result.1 (point trail.new learnt.new) (end_of (meaning b.now).width (trail_of trail.new.entries) result.0) }
-    ensures stands { (ps : List ℕ) → Standing (meaning b.now) ps trail.old learnt.old → Standing (meaning b.now) ps trail.new learnt.new }
-    ensures learns { (ps : List ℕ) → Standing (meaning b.now) ps trail.old learnt.old → StoreSound (meaning b.now) (store_of learnt.new) }
+    ensures searches { (ps : List ℕ) → Standing (B.meaning b.now) ps trail.old learnt.old
+        → Search (quest (B.meaning b.now) ps) budget (point trail.old learnt.old) result.1 (point trail.new learnt.new) (end_of (B.meaning b.now).width (trail_of trail.new.entries) result.0) }
+    ensures stands { (ps : List ℕ) → Standing (B.meaning b.now) ps trail.old learnt.old → Standing (B.meaning b.now) ps trail.new learnt.new }
+    ensures learns { (ps : List ℕ) → Standing (B.meaning b.now) ps trail.old learnt.old → StoreSound (B.meaning b.now) (store_of learnt.new) }
 {
     let width = b.width();
     let mut steps: u64 = 0;

@@ -23,7 +23,7 @@ pub enum Next {
 
 // The step that is needed next, or none: all options are valued, and no rule is dead.
 pub fn next_step<B: RuleBank>(b: &B, trail: &Trail, learnt: &Learnt) -> Option<Next>
-    ensures needs { AllInside (meaning b.now).width (store_of learnt.now) → Needs (meaning b.now) (store_of learnt.now) (trail_of trail.now.entries) result }
+    ensures needs { AllInside (B.meaning b.now).width (store_of learnt.now) → Needs (B.meaning b.now) (store_of learnt.now) (trail_of trail.now.entries) result }
     ensures safe { NextSafe result }
 {
     match propagate(b, trail, learnt) {

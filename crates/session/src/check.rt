@@ -27,10 +27,10 @@ fn keeps_picks(picks: &[u8], build: &[u8], width: usize) -> bool
 
 // Whether the build meets the rule. With every option valued, a bank says dead exactly of a rule that the build does not meet.
 fn meets_rule<B: RuleBank>(b: &B, rule: usize, build: &[u8]) -> bool
-    requires known { rule < (meaning b.now).rules }
-    requires long { (meaning b.now).width ≤ length build.now }
-    requires whole { up_to 1 (take (meaning b.now).width build.now) ≡ true }
-    ensures { result ≡ (meaning b.now).meets rule (bits (take (meaning b.now).width build.now)) }
+    requires known { rule < (B.meaning b.now).rules }
+    requires long { (B.meaning b.now).width ≤ length build.now }
+    requires whole { up_to 1 (take (B.meaning b.now).width build.now) ≡ true }
+    ensures { result ≡ (B.meaning b.now).meets rule (bits (take (B.meaning b.now).width build.now)) }
 {
     let mut marks = [2u8; 128];
     match b.mark(rule, build, &mut marks) {
@@ -44,9 +44,9 @@ fn meets_rule<B: RuleBank>(b: &B, rule: usize, build: &[u8]) -> bool
 
 // Whether the build meets every rule of the bank.
 fn meets_rules<B: RuleBank>(b: &B, build: &[u8]) -> bool
-    requires long { (meaning b.now).width ≤ length build.now }
-    requires whole { up_to 1 (take (meaning b.now).width build.now) ≡ true }
-    ensures { result ≡ meets_all (meaning b.now) (bits (take (meaning b.now).width build.now)) }
+    requires long { (B.meaning b.now).width ≤ length build.now }
+    requires whole { up_to 1 (take (B.meaning b.now).width build.now) ≡ true }
+    ensures { result ≡ meets_all (B.meaning b.now) (bits (take (B.meaning b.now).width build.now)) }
 {
     for rule in 0..b.count() {
         if !meets_rule(b, rule, build) {
@@ -59,7 +59,7 @@ fn meets_rules<B: RuleBank>(b: &B, build: &[u8]) -> bool
 impl<B: RuleBank> Session<B> {
     // Whether the build meets every rule and keeps every pick. The session stays as it is, an open search included.
     pub fn check(&self, build: [u8; 128]) -> Result<bool, Refusal>
-        ensures { numbered result ≡ check_reply (meaning self.now.bank) self.now.picks build }
+        ensures { numbered result ≡ check_reply (B.meaning self.now.bank) self.now.picks build }
     {
         let width = self.bank.width();
         if !values_up_to(&build, width, 1) {

@@ -23,14 +23,14 @@ pub(crate) const MOST_STEPS: u64 = 1 << 62;
 impl<B: RuleBank> Session<B> {
     // Searches on from where the trail stands, and hands out the build. Only a search that is out of budget stays open.
     fn search_on(&mut self, budget: u64, place: &mut [u8]) -> Completion
-        requires { (meaning self.old.bank).width ≤ length place.old }
-        ensures place { place.new ≡ filled (meaning self.old.bank).width result.verdict (read (meaning self.old.bank).width (trail_of self.new.trail.entries)) place.old }
+        requires { (B.meaning self.old.bank).width ≤ length place.old }
+        ensures place { place.new ≡ filled (B.meaning self.old.bank).width result.verdict (read (B.meaning self.old.bank).width (trail_of self.new.trail.entries)) place.old }
         ensures picks { self.new.picks ≡ self.old.picks }
         ensures bank { self.new.bank ≡ self.old.bank }
         ensures searching { self.new.searching ≡ stays_open result.verdict }
-        ensures searches { (ps : List ℕ) → Standing (meaning self.old.bank) ps self.old.trail self.old.learnt
-            → Search (quest (meaning self.old.bank) ps) budget (point self.old.trail self.old.learnt) result.steps (point self.new.trail self.new.learnt) (end_by result.verdict (read (meaning self.old.bank).width (trail_of self.new.trail.entries))) }
-        ensures stands { (ps : List ℕ) → Standing (meaning self.old.bank) ps self.old.trail self.old.learnt → Standing (meaning self.old.bank) ps self.new.trail self.new.learnt }
+        ensures searches { (ps : List ℕ) → Standing (B.meaning self.old.bank) ps self.old.trail self.old.learnt
+            → Search (quest (B.meaning self.old.bank) ps) budget (point self.old.trail self.old.learnt) result.steps (point self.new.trail self.new.learnt) (end_by result.verdict (read (B.meaning self.old.bank).width (trail_of self.new.trail.entries))) }
+        ensures stands { (ps : List ℕ) → Standing (B.meaning self.old.bank) ps self.old.trail self.old.learnt → Standing (B.meaning self.old.bank) ps self.new.trail self.new.learnt }
     {
         let (end, steps) = search(&self.bank, &mut self.trail, &mut self.learnt, budget);
         match end {
@@ -61,14 +61,14 @@ impl<B: RuleBank> Session<B> {
 
     // Begins a new search from the picks; an open one is given up.
     pub fn complete(&mut self, budget: u64, place: &mut [u8]) -> Result<Completion, Refusal>
-        ensures refusal { cause_of result ≡ refusal (meaning self.old.bank).width (state_of self.old) (complete_call budget (length place.old)) }
+        ensures refusal { cause_of result ≡ refusal (B.meaning self.old.bank).width (state_of self.old) (complete_call budget (length place.old)) }
         ensures refused { OnErr result (self.new ≡ self.old) }
-        ensures place { place.new ≡ place_after (meaning self.old.bank).width result (read (meaning self.old.bank).width (trail_of self.new.trail.entries)) place.old }
+        ensures place { place.new ≡ place_after (B.meaning self.old.bank).width result (read (B.meaning self.old.bank).width (trail_of self.new.trail.entries)) place.old }
         ensures picks { self.new.picks ≡ self.old.picks }
         ensures bank { self.new.bank ≡ self.old.bank }
-        ensures does { Stands (meaning self.old.bank) self.old → Does (meaning self.old.bank) (state_of self.old) (complete_call budget (length place.old)) (completion_reply (meaning self.old.bank).width result place.new) (state_of self.new) }
-        ensures kept { Stands (meaning self.old.bank) self.old → Stands (meaning self.old.bank) self.new }
-        ensures first { Stands (meaning self.old.bank) self.old → FirstFound (meaning self.old.bank).width (first_build (meaning self.old.bank).width (fulfils (meaning self.old.bank) self.old.picks)) result place.old place.new }
+        ensures does { Stands (B.meaning self.old.bank) self.old → Does (B.meaning self.old.bank) (state_of self.old) (complete_call budget (length place.old)) (completion_reply (B.meaning self.old.bank).width result place.new) (state_of self.new) }
+        ensures kept { Stands (B.meaning self.old.bank) self.old → Stands (B.meaning self.old.bank) self.new }
+        ensures first { Stands (B.meaning self.old.bank) self.old → FirstFound (B.meaning self.old.bank).width (first_build (B.meaning self.old.bank).width (fulfils (B.meaning self.old.bank) self.old.picks)) result place.old place.new }
     {
         if budget > MOST_STEPS {
             return Err(Refusal::BudgetTooLarge);
@@ -82,14 +82,14 @@ impl<B: RuleBank> Session<B> {
 
     // Goes on with the open search, with a budget of its own.
     pub fn resume(&mut self, budget: u64, place: &mut [u8]) -> Result<Completion, Refusal>
-        ensures refusal { cause_of result ≡ refusal (meaning self.old.bank).width (state_of self.old) (continue_call budget (length place.old)) }
+        ensures refusal { cause_of result ≡ refusal (B.meaning self.old.bank).width (state_of self.old) (continue_call budget (length place.old)) }
         ensures refused { OnErr result (self.new ≡ self.old) }
-        ensures place { place.new ≡ place_after (meaning self.old.bank).width result (read (meaning self.old.bank).width (trail_of self.new.trail.entries)) place.old }
+        ensures place { place.new ≡ place_after (B.meaning self.old.bank).width result (read (B.meaning self.old.bank).width (trail_of self.new.trail.entries)) place.old }
         ensures picks { self.new.picks ≡ self.old.picks }
         ensures bank { self.new.bank ≡ self.old.bank }
-        ensures does { Stands (meaning self.old.bank) self.old → Does (meaning self.old.bank) (state_of self.old) (continue_call budget (length place.old)) (completion_reply (meaning self.old.bank).width result place.new) (state_of self.new) }
-        ensures kept { Stands (meaning self.old.bank) self.old → Stands (meaning self.old.bank) self.new }
-        ensures first { Stands (meaning self.old.bank) self.old → FirstFound (meaning self.old.bank).width (first_build (meaning self.old.bank).width (fulfils (meaning self.old.bank) self.old.picks)) result place.old place.new }
+        ensures does { Stands (B.meaning self.old.bank) self.old → Does (B.meaning self.old.bank) (state_of self.old) (continue_call budget (length place.old)) (completion_reply (B.meaning self.old.bank).width result place.new) (state_of self.new) }
+        ensures kept { Stands (B.meaning self.old.bank) self.old → Stands (B.meaning self.old.bank) self.new }
+        ensures first { Stands (B.meaning self.old.bank) self.old → FirstFound (B.meaning self.old.bank).width (first_build (B.meaning self.old.bank).width (fulfils (B.meaning self.old.bank) self.old.picks)) result place.old place.new }
     {
         if budget > MOST_STEPS {
             return Err(Refusal::BudgetTooLarge);

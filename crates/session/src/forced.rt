@@ -42,9 +42,9 @@ impl<B: RuleBank> Session<B> {
         ensures picks { self.new.picks ≡ self.old.picks }
         ensures bank { self.new.bank ≡ self.old.bank }
         ensures searching { self.new.searching ≡ false }
-        ensures searches { StoreSound (meaning self.old.bank) (store_of self.old.learnt)
-            → Search (quest (meaning self.old.bank) picks) budget (start picks (store_of self.old.learnt)) result.1 (point self.new.trail self.new.learnt) (end_of (meaning self.old.bank).width (trail_of self.new.trail.entries) result.0) }
-        ensures learns { StoreSound (meaning self.old.bank) (store_of self.old.learnt) → StoreSound (meaning self.old.bank) (store_of self.new.learnt) }
+        ensures searches { StoreSound (B.meaning self.old.bank) (store_of self.old.learnt)
+            → Search (quest (B.meaning self.old.bank) picks) budget (start picks (store_of self.old.learnt)) result.1 (point self.new.trail self.new.learnt) (end_of (B.meaning self.old.bank).width (trail_of self.new.trail.entries) result.0) }
+        ensures learns { StoreSound (B.meaning self.old.bank) (store_of self.old.learnt) → StoreSound (B.meaning self.old.bank) (store_of self.new.learnt) }
     {
         self.searching = false;
         self.trail.begin(&picks);
@@ -53,13 +53,13 @@ impl<B: RuleBank> Session<B> {
 
     // What all builds that fulfil the order give the option. The open search is closed, and none of these stays open.
     pub fn forced(&mut self, option: usize, budget: u64) -> Result<Forced, Refusal>
-        ensures refusal { cause_of result ≡ refusal (meaning self.old.bank).width (state_of self.old) (forced_call option budget) }
+        ensures refusal { cause_of result ≡ refusal (B.meaning self.old.bank).width (state_of self.old) (forced_call option budget) }
         ensures refused { OnErr result (self.new ≡ self.old) }
         ensures picks { self.new.picks ≡ self.old.picks }
         ensures bank { self.new.bank ≡ self.old.bank }
-        ensures does { Stands (meaning self.old.bank) self.old → Does (meaning self.old.bank) (state_of self.old) (forced_call option budget) (forced_reply result) (state_of self.new) }
-        ensures kept { Stands (meaning self.old.bank) self.old → Stands (meaning self.old.bank) self.new }
-        ensures right { Stands (meaning self.old.bank) self.old → ForcedFound (meaning self.old.bank) self.old.picks option result }
+        ensures does { Stands (B.meaning self.old.bank) self.old → Does (B.meaning self.old.bank) (state_of self.old) (forced_call option budget) (forced_reply result) (state_of self.new) }
+        ensures kept { Stands (B.meaning self.old.bank) self.old → Stands (B.meaning self.old.bank) self.new }
+        ensures right { Stands (B.meaning self.old.bank) self.old → ForcedFound (B.meaning self.old.bank) self.old.picks option result }
     {
         if option >= self.bank.width() {
             return Err(Refusal::OptionOutside);

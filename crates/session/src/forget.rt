@@ -11,8 +11,8 @@ impl<B: RuleBank> Session<B> {
     pub fn forget(&mut self)
         ensures picks { self.new.picks ≡ self.old.picks }
         ensures bank { self.new.bank ≡ self.old.bank }
-        ensures does { Does (meaning self.old.bank) (state_of self.old) forget_call done (state_of self.new) }
-        ensures kept { Stands (meaning self.old.bank) self.old → Stands (meaning self.old.bank) self.new }
+        ensures does { Does (B.meaning self.old.bank) (state_of self.old) forget_call done (state_of self.new) }
+        ensures kept { Stands (B.meaning self.old.bank) self.old → Stands (B.meaning self.old.bank) self.new }
     {
         self.learnt.clear();
         self.searching = false;

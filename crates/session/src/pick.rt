@@ -12,12 +12,12 @@ use bank::rule_bank::RuleBank;
 impl<B: RuleBank> Session<B> {
     // Gives an unpicked option this value. An open search was made for other picks, so it is closed.
     pub fn pick(&mut self, option: usize, value: u8) -> Result<(), Refusal>
-        ensures refusal { cause_of result ≡ refusal (meaning self.old.bank).width (state_of self.old) (pick_call option value) }
+        ensures refusal { cause_of result ≡ refusal (B.meaning self.old.bank).width (state_of self.old) (pick_call option value) }
         ensures refused { OnErr result (self.new ≡ self.old) }
-        ensures picks { self.new.picks ≡ next_picks (meaning self.old.bank).width self.old.picks (pick_call option value) }
+        ensures picks { self.new.picks ≡ next_picks (B.meaning self.old.bank).width self.old.picks (pick_call option value) }
         ensures bank { self.new.bank ≡ self.old.bank }
-        ensures does { Does (meaning self.old.bank) (state_of self.old) (pick_call option value) (done_of result) (state_of self.new) }
-        ensures kept { Stands (meaning self.old.bank) self.old → Stands (meaning self.old.bank) self.new }
+        ensures does { Does (B.meaning self.old.bank) (state_of self.old) (pick_call option value) (done_of result) (state_of self.new) }
+        ensures kept { Stands (B.meaning self.old.bank) self.old → Stands (B.meaning self.old.bank) self.new }
     {
         if option >= self.bank.width() {
             return Err(Refusal::OptionOutside);

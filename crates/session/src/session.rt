@@ -22,8 +22,8 @@ impl<B: RuleBank> Session<B> {
     // A session with nothing but the bank.
     pub fn new(bank: B) -> Session<B>
         ensures bank { result.bank ≡ bank }
-        ensures new { New (meaning bank) (state_of result) }
-        ensures stands { Stands (meaning bank) result }
+        ensures new { New (B.meaning bank) (state_of result) }
+        ensures stands { Stands (B.meaning bank) result }
     {
         Session {
             bank,

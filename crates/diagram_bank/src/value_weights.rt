@@ -11,7 +11,7 @@ pub(crate) fn value_weights<S: Semiring + Copy>(
     weights: &mut [S],
 )
     requires { (width ≤ length values.now) × (width ≤ length weights.old) }
-    ensures { (o : ℕ) (d : S) → o < width → slice_index_or weights.new o d ≡ (if nat_eq (slice_index values.now o) barred then zero else one) }
+    ensures { (o : ℕ) (d : S) → o < width → slice_index_or weights.new o d ≡ (if nat_eq (slice_index values.now o) barred then S.zero else S.one) }
 {
     for o in 0..width {
         if values[o] == barred {

@@ -20,7 +20,7 @@ fn roomy(bank: &Diagrams<'_>, lows: usize, highs: usize, places: usize) -> bool
 fn fill<S: Semiring + Copy>(bank: &Diagrams<'_>, low: &[S], high: &[S], places: &mut [S])
     requires wide { (bank.now.width ≤ length low.now) × (bank.now.width ≤ length high.now) }
     requires long { bank.now.used + 2 ≤ length places.old }
-    ensures { places.new ≡ filled (node_sum (weights zero one plus times low.now high.now) bank.now.width bank.now.rows.now) (bank.now.used + 2) places.old }
+    ensures { places.new ≡ filled (node_sum (weights S.zero S.one S.plus S.times low.now high.now) bank.now.width bank.now.rows.now) (bank.now.used + 2) places.old }
 {
     places[0] = S::zero();
     places[1] = S::one();
@@ -38,7 +38,7 @@ pub fn column<S: Semiring + Copy>(
     places: &mut [S],
 ) -> Result<(), Refusal>
     ensures answer { numbered result ≡ column_reply (room bank.now.width bank.now.used (length low.now) (length high.now) (length places.old)) }
-    ensures after { places.new ≡ column_place (room bank.now.width bank.now.used (length low.now) (length high.now) (length places.old)) (node_sum (weights zero one plus times low.now high.now) bank.now.width bank.now.rows.now) (bank.now.used + 2) places.old }
+    ensures after { places.new ≡ column_place (room bank.now.width bank.now.used (length low.now) (length high.now) (length places.old)) (node_sum (weights S.zero S.one S.plus S.times low.now high.now) bank.now.width bank.now.rows.now) (bank.now.used + 2) places.old }
 {
     if !roomy(bank, low.len(), high.len(), places.len()) {
         return Err(Refusal::ShortPlace);

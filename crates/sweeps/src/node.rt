@@ -29,7 +29,7 @@ pub(crate) fn jumped<S: Semiring + Copy>(
     start: S,
 ) -> S
     requires { (to ≤ length low.now) × ((to ≤ length high.now) × (from ≤ to)) }
-    ensures { result ≡ jumps (weights zero one plus times low.now high.now) from (to - from) start }
+    ensures { result ≡ jumps (weights S.zero S.one S.plus S.times low.now high.now) from (to - from) start }
 {
     let mut value = start;
     let mut j = to;
@@ -51,8 +51,8 @@ pub(crate) fn node_result<S: Semiring + Copy>(
     requires wide { (bank.now.width ≤ length low.now) × (bank.now.width ≤ length high.now) }
     requires row { r < bank.now.used }
     requires long { bank.now.used + 2 ≤ length column.now }
-    requires below { (n : ℕ) (d : S) → n < r + 2 → slice_index_or column.now n d ≡ node_sum (weights zero one plus times low.now high.now) bank.now.width bank.now.rows.now n }
-    ensures { result ≡ node_sum (weights zero one plus times low.now high.now) bank.now.width bank.now.rows.now (r + 2) }
+    requires below { (n : ℕ) (d : S) → n < r + 2 → slice_index_or column.now n d ≡ node_sum (weights S.zero S.one S.plus S.times low.now high.now) bank.now.width bank.now.rows.now n }
+    ensures { result ≡ node_sum (weights S.zero S.one S.plus S.times low.now high.now) bank.now.width bank.now.rows.now (r + 2) }
 {
     let row = bank.rows[r];
     let option = row.option as usize;

@@ -19,8 +19,8 @@ pub fn sweep<S: Semiring + Copy>(
     high: &[S],
     places: &mut [S],
 ) -> Result<S, Refusal>
-    ensures answer { numbered result ≡ sweep_reply (nat_lt rule bank.now.root_count) (room bank.now.width bank.now.used (length low.now) (length high.now) (length places.old)) (sweep_of (weights zero one plus times low.now high.now) bank.now.width bank.now.rows.now (root_at bank.now.roots rule).node) }
-    ensures after { places.new ≡ column_place (nat_lt rule bank.now.root_count && room bank.now.width bank.now.used (length low.now) (length high.now) (length places.old)) (node_sum (weights zero one plus times low.now high.now) bank.now.width bank.now.rows.now) (bank.now.used + 2) places.old }
+    ensures answer { numbered result ≡ sweep_reply (nat_lt rule bank.now.root_count) (room bank.now.width bank.now.used (length low.now) (length high.now) (length places.old)) (sweep_of (weights S.zero S.one S.plus S.times low.now high.now) bank.now.width bank.now.rows.now (root_at bank.now.roots rule).node) }
+    ensures after { places.new ≡ column_place (nat_lt rule bank.now.root_count && room bank.now.width bank.now.used (length low.now) (length high.now) (length places.old)) (node_sum (weights S.zero S.one S.plus S.times low.now high.now) bank.now.width bank.now.rows.now) (bank.now.used + 2) places.old }
 {
     if rule >= bank.root_count {
         return Err(Refusal::NoSuchRule);

@@ -5,8 +5,8 @@ use Rattle.diagram_theory.specs.Counts.{opens}
 use Rattle.diagram_bank.proofs.Refusals.{no_rule, short_values, short_column, bad_value, too_many, no_cause}
 use Rattle.diagram_bank.proofs.variants.uncounted.Goals as goal
 
-pub returns-then-rule_bank : goal.returns-then-rule_bank
-returns-then-rule_bank c =
+pub returns-then-rule-bank : goal.returns-then-rule-bank
+returns-then-rule-bank c =
     let bank = c.args.bank.now in
     record { value = sym (no_rule bank.width bank.root_count bank.used c.args.rule c.args.values.now c.args.places (omega arith)); ready = tt }
 

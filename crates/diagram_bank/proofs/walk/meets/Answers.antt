@@ -7,8 +7,8 @@ use Rattle.diagram_theory.proofs.Within.{ends_within}
 use Rattle.diagram_theory.proofs.Paths.{path_law}
 use Rattle.diagram_bank.proofs.walk.meets.Goals as goal
 
-pub returns-then-rule_bank : goal.returns-then-rule_bank
-returns-then-rule_bank c =
+pub returns-then-rule-bank : goal.returns-then-rule-bank
+returns-then-rule-bank c =
     record { answer = sym (cond-false _ _ _ (le-ltb c.args.rule c.args.bank.now.root_count (omega arith))); paths = path_law }
 
 pub returns-then-build-bank : goal.returns-then-build-bank

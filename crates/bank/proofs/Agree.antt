@@ -4,9 +4,9 @@ use Rattle.std.proofs.lemmas.Bool.{cases_Bool, cases_eq}
 use Rattle.std.proofs.lemmas.List.{get_or-set_same, get_or-set_other, set-get_or, same_lists, get_or_default}
 use Rattle.builds.specs.Builds.{Build, bit}
 use Rattle.builds.specs.Values.{num, up_to}
-use Rattle.builds.specs.Answers.{Said, live}
+use Rattle.builds.specs.Answers.{live}
 use Rattle.bank.specs.Banks.{Bank}
-use Rattle.bank.specs.Reading.{Apart, Local, said_set}
+use Rattle.bank.specs.Reading.{Local, said_set}
 
 module _ (w : ℕ) (p : Build → Bool) (reads : ℕ → Bool)
     (free : (o : ℕ) → o < w → reads o ≡ false → (b : Build) (x : Bool) → length b ≡ w → p (set b o x) ≡ p b)

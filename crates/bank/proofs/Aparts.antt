@@ -1,10 +1,10 @@
 -- Options that a rule of an exact bank does not read.
-use Rattle.std.proofs.Common.{◌≡◌, ℕ, zero, suc, ◌<◌, ◌≤◌, Bool, true, false, cond, ◌&&◌, ◌≢◌, ◌⊎◌, List, [], ◌∷◌, map, length, get_or, set, sym, refl, ap, ◌∙◌, inl, inr, arith, length-set}
+use Rattle.std.proofs.Common.{◌≡◌, ℕ, zero, suc, ◌<◌, Bool, true, false, ◌≢◌, List, [], ◌∷◌, length, get_or, set, sym, refl, ◌∙◌, inl, inr, arith, length-set}
 use Rattle.std.proofs.lemmas.Bool.{and_parts, and_from, cases_eq}
 use Rattle.std.proofs.lemmas.List.{get_or-set_same, get_or-set_other}
 use Rattle.builds.specs.Builds.{Build, bit}
-use Rattle.builds.specs.Values.{num, up_to, fits, allows}
-use Rattle.builds.specs.Answers.{Said, dead, live, Fitting, occurs, mark_of, answer_of}
+use Rattle.builds.specs.Values.{num, fits, allows}
+use Rattle.builds.specs.Answers.{live, Fitting, occurs, mark_of, answer_of}
 use Rattle.builds.proofs.Tables.{fits_at, fits_set}
 use Rattle.builds.proofs.Marking.{has, mark_only, mark_both, answer_live}
 use Rattle.builds.proofs.Answering.{got, marks, length_marks, marks_at, answer_cases, none_dead, some_live}

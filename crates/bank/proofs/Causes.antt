@@ -1,11 +1,10 @@
 -- `mark_cause` and `answered`, case by case.
-use Rattle.std.proofs.Common.{◌≡◌, ℕ, zero, suc, ◌+◌, ◌<◌, ◌≤◌, Bool, true, false, cond, not, ◌&&◌, ◌||◌, eqb, ltb, leb, ◌⊎◌, List, [], ◌∷◌, ◌++◌, map, length, get_or, take, drop, Some, None, Ok, Err, Option, Result, sym, refl, ap, ◌∙◌, inl, inr, ⊎_elim, arith}
-use Rattle.std.proofs.lemmas.Bool.{and_parts, and_from, and_right, and_left, le-leb, lt-leb, lt-ltb, le-ltb, cond-true, cond-false, cases_lt, cases_Bool}
+use Rattle.std.proofs.Common.{◌≡◌, ℕ, ◌<◌, ◌≤◌, true, false, List, length, take, Some, None, Ok, Err, Option, sym, refl, ◌∙◌, inl, inr, arith}
+use Rattle.std.proofs.lemmas.Bool.{and_from, and_right, and_left, le-leb, lt-leb, lt-ltb, le-ltb, cond-true, cond-false, cases_lt, cases_Bool}
 use Rattle.builds.specs.Values.{up_to}
 use Rattle.builds.specs.Answers.{Said, dead, live}
-use Rattle.bank.specs.declared.refusal.Answer.{Answer}
 use Rattle.bank.specs.declared.refusal.Answer.TheVariants.{Dead, Live}
-use Rattle.bank.specs.Marking.{mark_cause, Ready, answered, written}
+use Rattle.bank.specs.Marking.{mark_cause, Ready, answered}
 
 module _ (w n rule : ℕ) (values : List ℕ) (room : ℕ) where
   pub no_rule : n ≤ rule → mark_cause w n rule values room ≡ Some 7

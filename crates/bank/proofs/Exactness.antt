@@ -1,14 +1,14 @@
 -- A bank that says exactly what the definition says keeps its duties.
-use Rattle.std.proofs.Common.{◌≡◌, ℕ, zero, suc, ◌-◌, ◌<◌, ◌≤◌, Bool, true, false, cond, not, ◌&&◌, leb, ◌⊎◌, List, [], ◌∷◌, ◌++◌, map, length, get_or, take, drop, set, None, Ok, sym, refl, ap, ◌∙◌, subst, inl, inr, arith}
+use Rattle.std.proofs.Common.{◌≡◌, ℕ, zero, suc, ◌-◌, ◌<◌, ◌≤◌, Bool, true, false, leb, List, [], ◌∷◌, ◌++◌, length, get_or, take, drop, set, None, Ok, sym, refl, ap, ◌∙◌, inl, inr, arith}
 use Rattle.std.proofs.lemmas.Bool.{and_parts, cases_Bool, cases_eq, both_ways, leb-true}
 use Rattle.std.proofs.lemmas.List.{length-take-le}
-use Rattle.builds.specs.Builds.{Build, bit, some_build}
-use Rattle.builds.specs.Values.{num, bits, up_to, fits, allows}
-use Rattle.builds.specs.Answers.{Said, dead, live, Fitting, mark_of, answer_of}
+use Rattle.builds.specs.Builds.{Build}
+use Rattle.builds.specs.Values.{bits, up_to, fits}
+use Rattle.builds.specs.Answers.{Fitting, mark_of, answer_of}
 use Rattle.builds.proofs.Tables.{fits_at}
-use Rattle.builds.proofs.Marking.{mark_only, answer_dead}
+use Rattle.builds.proofs.Marking.{mark_only}
 use Rattle.builds.proofs.Answering.{marks, length_marks, marks_at, mark_at_most, mark_tells, answer_cases, none_dead, some_live}
-use Rattle.bank.specs.Banks.{Bank, Duties, Honest, Lives}
+use Rattle.bank.specs.Banks.{Duties, Honest, Lives}
 use Rattle.bank.specs.Reading.{Local}
 use Rattle.bank.specs.Exact.{exact_bank}
 use Rattle.bank.specs.declared.refusal.Answer.{Answer}

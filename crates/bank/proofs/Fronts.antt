@@ -1,6 +1,6 @@
 -- An answer that fills the whole place, and one that is put in front of a longer place.
-use Rattle.std.proofs.Common.{◌≡◌, ℕ, ◌-◌, ◌≤◌, List, [], ◌++◌, length, take, drop, None, Ok, Option, sym, refl, ap, ◌∙◌, arith}
-use Rattle.std.proofs.lemmas.List.{drop_all, append-nil, append_assoc, length-take, take-append-drop, drop-drop, length-take-le}
+use Rattle.std.proofs.Common.{◌≡◌, ℕ, ◌-◌, ◌≤◌, List, [], ◌++◌, length, take, drop, None, Ok, Option, sym, refl, arith}
+use Rattle.std.proofs.lemmas.List.{drop_all, append-nil, length-take, take-append-drop, length-take-le}
 use Rattle.builds.specs.Answers.{Said, dead, live}
 use Rattle.bank.specs.declared.refusal.Answer.{Answer}
 use Rattle.bank.specs.declared.refusal.Answer.TheVariants.{Dead, Live}

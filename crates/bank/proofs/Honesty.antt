@@ -1,11 +1,11 @@
 -- What the duties of a bank give at a table without 2, and of a live answer.
-use Rattle.std.proofs.Common.{◌≡◌, ℕ, zero, suc, ◌+◌, ◌<◌, ◌≤◌, Bool, true, false, cond, not, ◌&&◌, ◌||◌, eqb, ltb, leb, ◌⊎◌, List, [], ◌∷◌, ◌++◌, map, length, get_or, take, drop, sym, refl, ap, ◌∙◌, inl, inr, ⊎_elim, add-one, arith}
-use Rattle.std.proofs.lemmas.Bool.{and_parts, and_from, and_right, and_left, le-leb, cases_Bool, both_ways, cases_eq}
+use Rattle.std.proofs.Common.{◌≡◌, ℕ, zero, suc, ◌+◌, ◌<◌, Bool, true, false, List, length, sym, ap, ◌∙◌, inl, inr, add-one, arith}
+use Rattle.std.proofs.lemmas.Bool.{and_from, and_right, and_left, cases_eq}
 use Rattle.std.proofs.lemmas.List.{length-map}
 use Rattle.builds.specs.Builds.{Build}
-use Rattle.builds.specs.Values.{up_to, bits, fits}
+use Rattle.builds.specs.Values.{up_to, bits}
 use Rattle.builds.specs.Answers.{Said, dead, live}
-use Rattle.bank.specs.Banks.{Honest, Lives, meets_first}
+use Rattle.bank.specs.Banks.{Honest, meets_first}
 use Rattle.builds.proofs.Tables.{bits_fit}
 
 -- at a table without 2

@@ -1,13 +1,11 @@
 -- What `mark` tells of a whole build, by the duties of the bank.
-use Rattle.std.proofs.Common.{◌≡◌, ℕ, ◌<◌, ◌≤◌, Bool, true, false, List, length, take, Some, None, Ok, Err, Result, sym, refl, ap, ◌∙◌, arith}
+use Rattle.std.proofs.Common.{◌≡◌, ℕ, ◌<◌, ◌≤◌, true, false, List, length, take, None, Ok, Err}
 use Rattle.std.proofs.lemmas.List.{length-take-le}
 use Rattle.builds.specs.Values.{up_to, bits}
-use Rattle.builds.specs.Answers.{Said, dead, live}
 use Rattle.builds.proofs.Tables.{up_to_more}
-use Rattle.bank.specs.declared.refusal.Answer.{Answer}
 use Rattle.bank.specs.declared.refusal.Answer.TheVariants.{Dead, Live}
-use Rattle.bank.specs.Banks.{Bank, Duties, Honest}
-use Rattle.bank.specs.Marking.{mark_cause, answered, mark_reply}
+use Rattle.bank.specs.Banks.{Bank, Duties}
+use Rattle.bank.specs.Marking.{mark_cause, mark_reply}
 use Rattle.bank.proofs.Causes.{no_cause, said_dead, said_live, not_refused}
 use Rattle.bank.proofs.Honesty.{dead_fails, live_holds}
 

@@ -1,5 +1,5 @@
 -- Which options a rule reads, and what holds at one that it does not read.
-use Rattle.std.specs.Prelude.{◌≡◌, ℕ, ◌<◌, ◌≤◌, Bool, true, false, List, length, slice_index, slice_set}
+use Rattle.std.specs.Prelude.{◌≡◌, ℕ, ◌<◌, Bool, true, false, List, length, slice_index, slice_set}
 use Rattle.std.proofs.Common.{arith}
 use Rattle.builds.specs.Builds.{Build}
 use Rattle.builds.specs.Values.{num, up_to}

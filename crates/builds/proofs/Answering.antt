@@ -1,15 +1,15 @@
 -- `answer_of` in the words of the subject, and the cases to go by.
-use Rattle.std.proofs.Common.{◌≡◌, ℕ, ◌<◌, ◌≤◌, Bool, true, false, cond, ◌&&◌, ◌⊎◌, List, map, length, get_or, sym, refl, ap, ◌∙◌, inl, inr, arith}
+use Rattle.std.proofs.Common.{◌≡◌, ℕ, ◌<◌, ◌≤◌, Bool, true, false, ◌&&◌, ◌⊎◌, List, map, length, get_or, sym, refl, ap, ◌∙◌, inl, inr, arith}
 use Rattle.std.specs.List.{range_with_len}
 use Rattle.std.proofs.lemmas.Bool.{and_parts, cases_Bool, both_ways, cond-true}
 use Rattle.std.proofs.lemmas.List.FromFn.{length-map-range_with_len, get_or-map-range_with_len}
-use Rattle.builds.specs.Builds.{Build, bit, same, some_build, Passes, HasNoBuild}
+use Rattle.builds.specs.Builds.{Build, bit, same, some_build}
 use Rattle.builds.specs.Values.{num, fits}
 use Rattle.builds.specs.Answers.{Said, dead, live, Fitting, occurs, mark_of, mark_from, answer_of, Marks, Agreed}
 use Rattle.builds.specs.Laws.{SomeBuildLaw, FirstBuildLaw, AnswerLaw}
 use Rattle.builds.proofs.Somes.{found, finds}
 use Rattle.builds.proofs.Firsts.{first→, first←, none→, none←, some→, some←}
-use Rattle.builds.proofs.Marking.{has, same_true, alive, mark_only, mark_both, answer_live, answer_dead}
+use Rattle.builds.proofs.Marking.{has, same_true, alive, mark_only, answer_dead}
 
 -- a mark of 0 or 1 rules the other value out
 mark_false : (x y : Bool) → y ≡ true → mark_from x y ≡ 0 → ⊥

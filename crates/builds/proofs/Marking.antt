@@ -1,10 +1,10 @@
 -- Marks and answers, shown by builds.
-use Rattle.std.proofs.Common.{◌≡◌, ℕ, zero, suc, ◌<◌, ◌≤◌, Bool, true, false, cond, not, ◌&&◌, ◌⊎◌, List, [], ◌∷◌, map, length, get_or, sym, refl, ap, ◌∙◌, inl, inr, arith}
+use Rattle.std.proofs.Common.{◌≡◌, ℕ, ◌<◌, Bool, true, false, ◌&&◌, List, length, get_or, sym, refl, ap, ◌∙◌, inl, inr}
 use Rattle.std.proofs.lemmas.Bool.{and_parts, and_from, cases_Bool, both_ways, cond-true, cond-false}
 use Rattle.std.proofs.lemmas.List.FromFn.{fill_by_all}
 use Rattle.builds.specs.Builds.{Build, bit, same, some_build}
-use Rattle.builds.specs.Values.{num, bits, fits}
-use Rattle.builds.specs.Answers.{Said, dead, live, Fitting, occurs, mark_of, mark_from, answer_of}
+use Rattle.builds.specs.Values.{num, fits}
+use Rattle.builds.specs.Answers.{dead, live, Fitting, occurs, mark_of, answer_of}
 use Rattle.builds.proofs.Somes.{found, finds}
 
 same_self : (x y : Bool) → y ≡ x → same x y ≡ true

@@ -2,7 +2,7 @@
 use Rattle.std.specs.Prelude.{◌≡◌, ℕ, ◌<◌, ◌≤◌, Bool, true, false, ◌↔◌, List, length, Some, None, slice_index_or}
 use Rattle.builds.specs.Builds.{Build, bit, some_build, first_build, before, Passes, SameBelow, First, HasNoBuild}
 use Rattle.builds.specs.Values.{fits}
-use Rattle.builds.specs.Answers.{Said, dead, live, Fitting, answer_of, Marks, Agreed}
+use Rattle.builds.specs.Answers.{dead, live, answer_of, Marks, Agreed}
 
 -- `some_build` is true exactly if there is a build that passes, and false exactly if there is none
 abbrev pub SomeBuildLaw : Type 0

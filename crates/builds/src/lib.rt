@@ -3,7 +3,7 @@
 #![tactic(auto)]
 
 ghost use Rattle.std.specs.Prelude.{◌≡◌, ℕ, ◌<◌, ◌≤◌, Bool, true, false, length};
-ghost use Rattle.builds.specs.Builds.{before as BeforeOf};
+ghost use Rattle.builds.specs.Builds.{before as before_of};
 ghost use Rattle.builds.specs.Values.{allows as allows_of, fits as fits_of};
 ghost use Rattle.builds.specs.Laws.{SomeBuildLaw, FirstBuildLaw, BeforeLaw, AnswerLaw};
 
@@ -35,7 +35,7 @@ pub fn fits(values: &[u8], build: &[bool]) -> bool
 
 // Whether the left build comes first: it has 0 at the lowest option where the two differ.
 pub fn before(left: &[bool], right: &[bool]) -> bool
-    ensures value { result ≡ BeforeOf left.now right.now }
+    ensures value { result ≡ before_of left.now right.now }
     ensures order { BeforeLaw }
     ensures firsts { FirstBuildLaw }
 {

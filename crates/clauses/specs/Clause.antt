@@ -1,5 +1,5 @@
 -- Clauses: a literal is the number 2 × option + wanted value; a build meets a clause when it meets one literal or more.
-use Rattle.std.specs.Prelude.{ℕ, ◌/◌, ◌%◌, Bool, true, false, ◌||◌, List, [], ◌∷◌, ◌==◌}
+use Rattle.std.specs.Prelude.{ℕ, ◌/◌, ◌%◌, Bool, false, ◌||◌, List, [], ◌∷◌, ◌==◌}
 use Rattle.builds.specs.Builds.{Build, bit, same}
 
 -- the value that a literal wants

@@ -2,7 +2,7 @@
 use Rattle.std.proofs.Common.{◌≡◌, ℕ, zero, suc, ◌+◌, ◌-◌, ◌%◌, ◌^◌, ◌<◌, ◌≤◌, Bool, true, false, cond, ◌&&◌, eqb, List, [], ◌∷◌, length, get_or, take, drop, sym, refl, ap, ◌∙◌, subst, mod-eq_of_lt, pow-suc, add-one, arith}
 use native.Mathlib.Nat.{mod-add-mod, add-mod-mod, pow-zero, pow-le-pow_right}
 use Rattle.std.proofs.lemmas.List.{get_or-drop, length-drop}
-use Rattle.builds.specs.Builds.{Build, bit}
+use Rattle.builds.specs.Builds.{Build}
 use Rattle.builds.specs.Values.{fits, allows}
 use Rattle.diagrams.specs.declared.row.Row.{Row}
 use Rattle.diagrams.specs.Rows.{option_of, Lawful}

@@ -1,5 +1,5 @@
 -- Builds put together from two: the way to a node from one, the way on from another.
-use Rattle.std.proofs.Common.{◌≡◌, ℕ, suc, ◌+◌, ◌-◌, ◌<◌, Bool, true, cond, eqb, ltb, ◌≢◌, List, sym, refl, ap, ◌∙◌, subst, inl, inr, arith}
+use Rattle.std.proofs.Common.{◌≡◌, ℕ, suc, ◌+◌, ◌<◌, Bool, true, cond, eqb, ltb, ◌≢◌, List, sym, refl, ap, ◌∙◌, subst, inl, inr, arith}
 use Rattle.std.proofs.lemmas.Bool.{cases_eq, cases_lt, cond-true, cond-false, eq-eqb, ne_eqb, lt-ltb, le-ltb}
 use Rattle.diagrams.specs.declared.row.Row.{Row}
 use Rattle.diagrams.specs.Rows.{row_at, option_of, Lawful}

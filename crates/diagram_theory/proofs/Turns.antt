@@ -1,10 +1,10 @@
 -- One row of the way down: what is reached and seen stays sound and whole.
-use Rattle.std.proofs.Common.{◌≡◌, ℕ, suc, ◌+◌, ◌-◌, ◌<◌, ◌≤◌, Bool, true, false, cond, ◌&&◌, eqb, ltb, leb, ◌⊎◌, List, length, get_or, sym, refl, ap, ◌∙◌, subst, inl, inr, arith}
+use Rattle.std.proofs.Common.{◌≡◌, ℕ, suc, ◌+◌, ◌<◌, ◌≤◌, Bool, true, false, cond, ◌&&◌, eqb, ltb, leb, ◌⊎◌, List, length, get_or, sym, refl, ap, ◌∙◌, subst, inl, inr, arith}
 use Rattle.std.proofs.lemmas.List.{get_or_default}
 use Rattle.std.proofs.lemmas.Bool.{or_cases, or_left, or_right, and_parts, and_from, both_ways, cases_eq, cases_lt, cases_Bool, eq-eqb, lt-ltb, le-leb, eqb-true, ltb-true, leb-true}
 use Rattle.diagrams.specs.declared.row.Row.{Row}
 use Rattle.diagrams.specs.Rows.{row_at, option_of, Lawful}
-use Rattle.diagrams.specs.Walk.{arrow, walk, ends}
+use Rattle.diagrams.specs.Walk.{arrow, ends}
 use Rattle.diagram_theory.specs.Semirings.{node_sum}
 use Rattle.diagram_theory.specs.Models.{yes_no}
 use Rattle.diagram_theory.specs.Seen.{inside, Marked, Freed}

@@ -1,5 +1,5 @@
 -- What one arrow of a diagram makes reached and seen, on the way down from the root.
-use Rattle.std.specs.Prelude.{◌≡◌, ℕ, ◌<◌, Bool, true, false, ◌&&◌, ◌||◌, List, ◌==◌, nat_le, nat_lt, slice_index, slice_index_or}
+use Rattle.std.specs.Prelude.{◌≡◌, ℕ, ◌<◌, Bool, false, ◌&&◌, ◌||◌, List, ◌==◌, nat_le, nat_lt, slice_index, slice_index_or}
 use Rattle.builds.specs.Values.{allows}
 
 -- from ≤ o < to

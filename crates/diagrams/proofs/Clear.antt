@@ -1,12 +1,12 @@
 -- What is known where no cause is found: of the sizes, the rows and the roots.
-use Rattle.std.proofs.Common.{◌≡◌, ℕ, ◌+◌, ◌<◌, ◌≤◌, Bool, true, false, cond, ◌||◌, eqb, ltb, leb, List, length, get_or, Some, None, Ok, Err, Option, Result, sym, refl, ap, ◌∙◌, arith}
+use Rattle.std.proofs.Common.{◌≡◌, ℕ, ◌+◌, ◌<◌, ◌≤◌, Bool, true, false, List, length, get_or, Some, None, Ok, Err, Option, Result, refl, arith}
 use Rattle.std.proofs.lemmas.Bool.Decides.{nat_tests}
 use Rattle.std.proofs.lemmas.Bool.{leb-false, or_parts}
 use Rattle.bank.specs.Numbers.{Located, cause_number}
 use Rattle.bank.specs.declared.table_fault.TableCause.{TableCause}
 use Rattle.diagrams.specs.declared.row.Row.{Row}
-use Rattle.diagrams.specs.Rows.{row_at, option_of, RowLawful, Lawful}
-use Rattle.diagrams.specs.Causes.{first, at_item, refused_at, and_then, option_bad, arrow_bad, child_bad, root_bad, sizes_cause, rows_cause, roots_cause, open_cause, row_cause, root_cause}
+use Rattle.diagrams.specs.Rows.{row_at, option_of, Lawful}
+use Rattle.diagrams.specs.Causes.{at_item, refused_at, and_then, option_bad, arrow_bad, child_bad, sizes_cause, rows_cause, roots_cause, open_cause, row_cause}
 use Rattle.diagrams.proofs.First.{first_clear}
 
 -- one check after another, by what the first said

@@ -1,11 +1,11 @@
 -- How a table stays lawful while rows and roots are put into it.
-use Rattle.std.proofs.Common.{◌≡◌, ℕ, zero, suc, ◌+◌, ◌-◌, ◌<◌, ◌≤◌, Bool, true, false, ◌||◌, leb, List, [], ◌∷◌, ◌++◌, map, length, get_or, take, drop, set, sym, refl, ap, ◌∙◌, subst, ⊎_elim, arith}
+use Rattle.std.proofs.Common.{◌≡◌, ℕ, zero, suc, ◌+◌, ◌<◌, ◌≤◌, List, [], ◌∷◌, ◌++◌, map, length, get_or, take, drop, set, sym, refl, ap, ◌∙◌, subst, ⊎_elim, arith}
 use Rattle.std.proofs.lemmas.List.{get_or_append_left, take_more, take_more_set, drop_more, set_at, length-take-le, append_assoc, take_all, get_or-set_same, get_or-set_other, map_push, get_or-map, get_or-take, length-map, length-take}
 use Rattle.std.proofs.lemmas.Bool.{cases_lt}
 use Rattle.option_set.specs.Sets.{member}
 use Rattle.diagrams.specs.declared.row.Row.{Row}
 use Rattle.diagrams.specs.declared.row.Root.{Root}
-use Rattle.diagrams.specs.Rows.{blank, row_at, option_of, RowLawful, Lawful}
+use Rattle.diagrams.specs.Rows.{blank, row_at, option_of, Lawful}
 use Rattle.diagrams.specs.Reach.{reaches}
 use Rattle.diagrams.specs.Roots.{no_root, root_at, RootedAll, ReachingAll}
 use Rattle.diagrams.specs.Filled.{root_nodes, front_replaced}

@@ -1,11 +1,11 @@
 -- What lawful rows give of the options that a node reads.
-use Rattle.std.proofs.Common.{◌≡◌, ℕ, zero, suc, ◌+◌, ◌-◌, ◌<◌, ◌≤◌, Bool, true, false, cond, ◌||◌, eqb, ◌≢◌, List, length, get_or, set, sym, refl, ap, ◌∙◌, arith}
+use Rattle.std.proofs.Common.{◌≡◌, ℕ, zero, suc, ◌+◌, ◌<◌, ◌≤◌, Bool, false, cond, ◌||◌, eqb, ◌≢◌, List, set, refl, ap, ◌∙◌, arith}
 use Rattle.std.proofs.lemmas.Bool.{or_from, or_parts, ne_eqb, eqb-false}
 use Rattle.std.proofs.lemmas.List.{get_or-set_other}
 use Rattle.builds.specs.Builds.{Build, bit}
 use Rattle.diagrams.specs.declared.row.Row.{Row}
-use Rattle.diagrams.specs.Rows.{row_at, option_of, Lawful}
-use Rattle.diagrams.specs.Walk.{arrow, walk, ends, meets_root}
+use Rattle.diagrams.specs.Rows.{row_at, Lawful}
+use Rattle.diagrams.specs.Walk.{arrow, walk, meets_root}
 use Rattle.diagrams.specs.Reach.{reaches_in, reaches}
 use Rattle.diagrams.proofs.Walks.{both}
 

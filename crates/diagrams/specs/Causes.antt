@@ -1,5 +1,5 @@
 -- Why a table of diagrams, a row or a root is refused: the number of the cause, and the first item at fault, counted in its kind.
-use Rattle.std.specs.Prelude.{ℕ, zero, suc, ◌+◌, min, Bool, true, false, cond, ◌||◌, List, length, Some, None, Ok, Err, Option, Result, ◌==◌, nat_le, nat_lt, slice_index}
+use Rattle.std.specs.Prelude.{ℕ, zero, suc, ◌+◌, min, Bool, cond, ◌||◌, List, length, Some, None, Ok, Err, Option, Result, ◌==◌, nat_le, nat_lt, slice_index}
 use Rattle.bank.specs.declared.table_fault.TableCause.{TableCause}
 use Rattle.bank.specs.declared.table_fault.TableCause.TheVariants.{BadWidth, TooMany, OptionTooLarge, ArrowNotDown, ChildNotLater, RootUnknown}
 use Rattle.bank.specs.Numbers.{Located, cause_number}

@@ -1,8 +1,8 @@
 -- Columns read from the left give back the number, and bytes that are read as a number are its columns.
-use Rattle.std.proofs.Common.{◌≡◌, ℕ, zero, suc, ◌+◌, ◌-◌, ◌*◌, ◌/◌, ◌%◌, ◌^◌, ◌<◌, ◌≤◌, Bool, true, false, cond, ◌&&◌, eqb, ltb, leb, ◌⊎◌, List, [], ◌∷◌, length, get_or, Some, None, Option, sym, refl, ap, ◌∙◌, inl, inr, mod-eq_of_lt, div-one, add-one, arith}
+use Rattle.std.proofs.Common.{◌≡◌, ℕ, zero, suc, ◌+◌, ◌-◌, ◌*◌, ◌/◌, ◌%◌, ◌^◌, ◌<◌, ◌≤◌, true, false, cond, ◌&&◌, eqb, ltb, leb, ◌⊎◌, List, [], ◌∷◌, length, get_or, Some, None, sym, refl, ap, ◌∙◌, inl, inr, mod-eq_of_lt, div-one, add-one, arith}
 use native.Mathlib.Nat.{div-eq_of_lt}
 use Rattle.std.proofs.lemmas.List.{same_lists, get_or_default}
-use Rattle.std.proofs.lemmas.Bool.{and_left, and_right, and_from, and_parts, and_cases, cond-true, cond-false, lt-ltb, le-ltb, ltb-true, le-leb, lt-leb, leb-true, ne_eqb, eq-eqb, eqb-true, eqb-false, cases_lt, cases_eq, cases_Bool}
+use Rattle.std.proofs.lemmas.Bool.{and_left, and_right, and_from, and_parts, cond-true, cond-false, lt-ltb, le-ltb, ltb-true, le-leb, leb-true, ne_eqb, eq-eqb, eqb-true, cases_lt, cases_Bool}
 use Rattle.fields.specs.declared.seen.Seen.{Seen}
 use Rattle.fields.specs.declared.seen.Seen.TheVariants.{Blank, Number, Off}
 use Rattle.fields.specs.Field.{column, columns, field_of}

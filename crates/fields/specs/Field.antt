@@ -1,5 +1,5 @@
 -- A field: a decimal number below 1,000,000 in six columns, right-justified with spaces, without leading zeros. Bytes are codes: 32 is a space, 48 is '0'.
-use Rattle.std.specs.Prelude.{◌≡◌, ℕ, zero, suc, ◌+◌, ◌/◌, ◌%◌, ◌^◌, ◌<◌, Bool, cond, ◌&&◌, ◌↔◌, List, [], ◌∷◌, nat_lt}
+use Rattle.std.specs.Prelude.{ℕ, zero, suc, ◌+◌, ◌/◌, ◌%◌, ◌^◌, cond, ◌&&◌, List, [], ◌∷◌, nat_lt}
 
 -- what stands j columns from the right: a digit, or a space left of the number
 abbrev pub column : ℕ → ℕ → ℕ

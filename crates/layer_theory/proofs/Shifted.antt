@@ -1,5 +1,5 @@
 -- A shifted bank keeps its duties, and its exactness.
-use Rattle.std.proofs.Common.{ℕ, ◌+◌, ◌-◌, Bool, take, drop, ap, ◌∙◌, arith, length-drop, length-take}
+use Rattle.std.proofs.Common.{ℕ, ◌+◌, Bool, take, drop, ap, ◌∙◌, arith, length-drop, length-take}
 use Rattle.bank.specs.Banks.{Bank, Duties}
 use Rattle.bank.specs.Reading.{Local}
 use Rattle.bank.proofs.Honesty.{live_long}

@@ -1,5 +1,5 @@
 -- Where a line stands in a text.
-use Rattle.std.specs.Prelude.{ℕ, ◌+◌, ◌-◌, Bool, cond, List, take, drop}
+use Rattle.std.specs.Prelude.{ℕ, ◌+◌, ◌-◌, cond, List, take, drop}
 use Rattle.lines.specs.declared.place.LinePlace.{LinePlace}
 use Rattle.lines.specs.Lines.{Line}
 

@@ -1,7 +1,6 @@
 -- The lines of values, one value more, and their length.
-use Rattle.std.proofs.Common.{◌≡◌, ℕ, zero, suc, ◌+◌, ◌*◌, ◌≤◌, List, [], ◌∷◌, ◌++◌, map, length, sym, refl, ap, ◌∙◌, append_assoc, append-nil, arith}
+use Rattle.std.proofs.Common.{◌≡◌, ℕ, suc, ◌+◌, ◌*◌, List, [], ◌∷◌, ◌++◌, length, sym, refl, ap, ◌∙◌, append_assoc, append-nil, arith}
 use Rattle.std.proofs.lemmas.List.{length-append}
-use Rattle.builds.specs.Builds.{Build}
 use Rattle.builds.specs.Values.{num}
 use Rattle.fields.specs.Field.{field_of}
 use Rattle.fields.proofs.Columns.{length_columns}

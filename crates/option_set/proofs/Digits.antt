@@ -5,7 +5,7 @@ use native.Mathlib.Nat.{div-eq_of_lt, div_self, mul-mod_left, pow-succ'}
 use lib.Bits.{bit_and, bit_or, bit_xor, and_shr, or_shr, xor_shr, and_mod, or_mod, xor_mod, and_mask}
 use lib.Pow.{pow-lt, mod-mod-pow, ones_lt, ones_split}
 use Rattle.std.proofs.lemmas.Nat.{mod_below, mod-mul-add, shl-shr, shr-shr, shr_high, field_of, one_shl, div_below, div-add-mod'}
-use Rattle.std.proofs.lemmas.Bool.{cases_lt, cases_order, eq-eqb, ne_eqb, lt-ltb, le-ltb, le-leb, lt-leb, or_parts, or_from, or_left, or_right, or_cases, cases_Bool, true≢false}
+use Rattle.std.proofs.lemmas.Bool.{cases_lt, cases_order, eq-eqb, ne_eqb, lt-ltb, le-ltb, le-leb, lt-leb, or_from, or_left, or_right, or_cases, cases_Bool, true≢false}
 use Rattle.option_set.specs.Sets.{member, some_member}
 
 -- single digits

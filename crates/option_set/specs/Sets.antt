@@ -1,5 +1,5 @@
 -- Sets of options as the binary digits of a number: the option o is in the set if the digit of 2 ^ o is 1.
-use Rattle.std.specs.Prelude.{ℕ, zero, suc, ◌/◌, ◌%◌, ◌^◌, Bool, true, false, ◌||◌, ◌==◌}
+use Rattle.std.specs.Prelude.{ℕ, zero, suc, ◌/◌, ◌%◌, ◌^◌, Bool, false, ◌||◌, ◌==◌}
 
 -- the option is in the set
 unfoldable pub member : ℕ → ℕ → Bool

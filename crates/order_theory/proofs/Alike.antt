@@ -1,9 +1,9 @@
 -- Banks with the same options and the same rules have the same builds.
-use Rattle.std.proofs.Common.{◌≡◌, ℕ, zero, suc, ◌+◌, ◌-◌, ◌<◌, ◌≤◌, min, max, Bool, true, false, cond, ◌&&◌, ltb, ◌⊎◌, List, [], ◌∷◌, length, take, drop, Some, None, Option, sym, refl, ap, ◌∙◌, subst, inl, inr, arith}
+use Rattle.std.proofs.Common.{◌≡◌, ℕ, zero, suc, ◌+◌, ◌-◌, ◌<◌, min, max, Bool, true, false, cond, ◌&&◌, ltb, List, [], ◌∷◌, take, drop, Some, None, sym, refl, ap, ◌∙◌, inl, inr, arith}
 use Rattle.std.proofs.lemmas.Bool.{cases_lt, cond-true, cond-false, lt-ltb, le-ltb}
 use Rattle.builds.specs.Builds.{Build, first_build, or_else, put_front}
 use Rattle.builds.specs.Values.{fits}
-use Rattle.bank.specs.Banks.{Bank, meets_first, meets_all}
+use Rattle.bank.specs.Banks.{Bank, meets_first}
 use Rattle.layer_theory.specs.Layers.{part_meets, pair_meets, pair_bank, shift_at, shift_bank}
 use Rattle.search_theory.specs.Orders.{fulfils}
 

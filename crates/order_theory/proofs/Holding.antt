@@ -1,9 +1,8 @@
 -- Tables that hold a catalogue are, put together, the bank that the catalogue spells.
-use Rattle.std.proofs.Common.{◌≡◌, ℕ, ◌+◌, ◌<◌, ◌≤◌, Bool, List, [], length, get_or, take, sym, refl, ap, ◌∙◌, subst, arith}
+use Rattle.std.proofs.Common.{◌≡◌, ℕ, ◌<◌, length, get_or, take, sym, refl, ap, ◌∙◌, subst, arith}
 use Rattle.std.proofs.lemmas.List.{get_or-take, get_or-map, length-map}
-use Rattle.builds.specs.Builds.{Build, bit}
+use Rattle.builds.specs.Builds.{bit}
 use Rattle.bank.specs.Banks.{Bank}
-use Rattle.diagrams.specs.declared.row.Row.{Row}
 use Rattle.diagrams.specs.declared.row.Root.{Root}
 use Rattle.diagrams.specs.declared.table.Diagrams.{Diagrams}
 use Rattle.diagrams.specs.Roots.{no_root, root_at}
@@ -14,12 +13,11 @@ use Rattle.clauses.specs.declared.table.Clauses.{Clauses}
 use Rattle.clauses.specs.Table.{rules_of as clauses_of}
 use Rattle.clauses.specs.Meaning.{clauses_bank}
 use Rattle.groups.specs.declared.table.Groups.{Groups}
-use Rattle.groups.specs.Group.{Rule}
 use Rattle.groups.specs.View.{rules_of as groups_of}
 use Rattle.groups.specs.Meaning.{groups_bank}
 use Rattle.layer_theory.specs.Layers.{pair_bank, shift_bank}
 use Rattle.rule_text.specs.Catalogue.{Catalogue, catalogue_bank}
-use Rattle.rule_text.specs.View.{rows_in, roots_in, Held}
+use Rattle.rule_text.specs.View.{Held}
 use Rattle.order_theory.proofs.Alike.{Alike, shift_alike, pair_alike}
 use Rattle.order_theory.proofs.Walking.{walk_front}
 

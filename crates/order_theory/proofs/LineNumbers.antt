@@ -1,5 +1,5 @@
 -- A fault's line has a number that a field can show: a text has no more lines than bytes.
-use Rattle.std.proofs.Common.{◌≡◌, ℕ, zero, suc, ◌+◌, ◌^◌, ◌<◌, ◌≤◌, Bool, true, false, cond, eqb, ltb, List, [], ◌∷◌, length, Ok, Err, Result, sym, refl, ap, ◌∙◌, subst, arith}
+use Rattle.std.proofs.Common.{◌≡◌, ℕ, ◌+◌, ◌^◌, ◌<◌, ◌≤◌, true, eqb, ltb, List, [], ◌∷◌, length, Ok, Err, Result, subst, arith}
 use Rattle.std.proofs.lemmas.Bool.{cond_both, ltb-false}
 use Rattle.lines.specs.Lines.{Line, put_byte, lines_of}
 use Rattle.texts.specs.Faults.{Layered, Fault, at_line, line_fault}
@@ -8,7 +8,7 @@ use Rattle.rule_text.specs.Catalogue.{Catalogue, no_catalogue}
 use Rattle.rule_text.specs.RuleLines.{read_rule, read_rules, rules_text}
 use Rattle.search_theory.specs.Runs.{no_picks}
 use Rattle.pick_text.specs.PickLines.{read_pick, read_picks, picks_text}
-use Rattle.pick_text.specs.Orders.{Order, ordered, with_picks, order_of}
+use Rattle.pick_text.specs.Orders.{ordered, with_picks, order_of}
 use Rattle.order_theory.specs.Orders.{both_texts}
 
 put_length : (b : ℕ) (ls : List Line) → length (put_byte b ls) ≤ length ls + 1

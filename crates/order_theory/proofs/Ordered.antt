@@ -1,5 +1,5 @@
 -- Tables that hold what both texts of an order say have what the order asks for.
-use Rattle.std.proofs.Common.{◌≡◌, ℕ, ◌^◌, ◌≤◌, Bool, true, false, cond, ltb, ◌⊎◌, List, length, Ok, Err, Result, sym, refl, ap, ◌∙◌, subst, inl, inr, arith}
+use Rattle.std.proofs.Common.{◌≡◌, ℕ, ◌^◌, ◌≤◌, ltb, List, Ok, Err, sym, ap, ◌∙◌, subst, inl, inr, arith}
 use Rattle.std.proofs.lemmas.Bool.{cases_Bool, cond-true, ltb-false}
 use Rattle.builds.specs.Builds.{first_build}
 use Rattle.bank.specs.Banks.{Bank}
@@ -8,17 +8,15 @@ use Rattle.clauses.specs.declared.table.Clauses.{Clauses}
 use Rattle.groups.specs.declared.table.Groups.{Groups}
 use Rattle.search_theory.specs.Orders.{fulfils, open_options}
 use Rattle.search_theory.specs.Held.{PicksOk}
-use Rattle.texts.specs.Faults.{Fault}
-use Rattle.rule_text.specs.Catalogue.{Catalogue, catalogue_bank}
+use Rattle.rule_text.specs.Catalogue.{catalogue_bank}
 use Rattle.rule_text.specs.RuleLines.{rules_until}
 use Rattle.rule_text.specs.View.{Held}
 use Rattle.pick_text.specs.PickLines.{picks_until}
 use Rattle.pick_text.specs.Orders.{Order, order_of}
-use Rattle.order_theory.specs.Orders.{both_texts}
 use Rattle.order_theory.specs.Asked.{first_asked, unpicked_in}
 use Rattle.order_theory.proofs.Alike.{Alike, asked_alike}
 use Rattle.order_theory.proofs.Holding.{tables_bank, tables_alike}
-use Rattle.order_theory.proofs.Widths.{Fitting, fitting_width, order_read, order_fits}
+use Rattle.order_theory.proofs.Widths.{fitting_width, order_read, order_fits}
 use Rattle.order_theory.proofs.Picking.{picks_ok}
 
 -- an order that is read has a budget that is allowed

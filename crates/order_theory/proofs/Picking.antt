@@ -1,5 +1,5 @@
 -- The picks that a text gives are picks of a session.
-use Rattle.std.proofs.Common.{ℕ, ◌+◌, ◌<◌, ◌≤◌, Bool, true, false, cond, eqb, leb, List, [], ◌∷◌, get_or, drop, set, Some, None, Ok, Err, Option, Result, refl, arith}
+use Rattle.std.proofs.Common.{ℕ, Bool, true, false, cond, eqb, leb, List, [], ◌∷◌, get_or, drop, set, Some, None, Ok, Err, Option, Result, refl, arith}
 use Rattle.std.proofs.lemmas.Bool.{cond_both, leb-false}
 use Rattle.lines.specs.Lines.{Line, lines_of}
 use Rattle.texts.specs.Faults.{Layered, line_fault, session_fault}

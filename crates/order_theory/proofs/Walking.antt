@@ -1,9 +1,9 @@
 -- A walk reads only the rows of its table, whatever memory lies behind them.
-use Rattle.std.proofs.Common.{◌≡◌, ℕ, zero, suc, ◌+◌, ◌<◌, ◌≤◌, Bool, cond, List, length, get_or, take, sym, refl, ap, ◌∙◌, arith}
+use Rattle.std.proofs.Common.{◌≡◌, ℕ, zero, suc, ◌+◌, ◌<◌, Bool, cond, List, take, sym, refl, ap, ◌∙◌, arith}
 use Rattle.std.proofs.lemmas.List.{get_or-take}
 use Rattle.diagrams.specs.declared.row.Row.{Row}
-use Rattle.diagrams.specs.Rows.{blank, row_at, Lawful}
-use Rattle.diagrams.specs.Walk.{arrow, walk, ends}
+use Rattle.diagrams.specs.Rows.{blank, Lawful}
+use Rattle.diagrams.specs.Walk.{arrow, walk}
 use Rattle.diagrams.proofs.Walks.{arrow_down}
 
 module _ (w : ℕ) (rows : List Row) (used : ℕ) (ok : Lawful w rows used) where

@@ -2,7 +2,7 @@
 use Rattle.std.specs.Prelude.{◌≡◌, ℕ, ◌≤◌, List, Ok, Option}
 use Rattle.builds.specs.Builds.{Build, first_build}
 use Rattle.search_theory.specs.Orders.{fulfils, open_options}
-use Rattle.rule_text.specs.Catalogue.{Catalogue, catalogue_bank}
+use Rattle.rule_text.specs.Catalogue.{catalogue_bank}
 use Rattle.pick_text.specs.Orders.{Order, order_of}
 
 -- the first build that meets every rule and keeps every pick, if there is one

@@ -3,7 +3,7 @@ use Rattle.std.proofs.Common.{◌≡◌, ℕ, ◌+◌, ◌-◌, ◌<◌, ◌≤�
 use Rattle.lines.specs.Lines.{Line, lines_of}
 use Rattle.lines.specs.declared.place.LinePlace.{LinePlace}
 use Rattle.lines.specs.Places.{line_at, next_start}
-use Rattle.texts.specs.Faults.{Layered, Fault, at_line}
+use Rattle.texts.specs.Faults.{Layered, at_line}
 use Rattle.texts.specs.Fields.{carried}
 use Rattle.pick_text.specs.PickLines.{read_pick, read_picks, picks_text, kept_by, read_until, picks_until}
 

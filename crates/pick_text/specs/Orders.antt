@@ -1,5 +1,5 @@
 -- The whole order: both texts and the budget, read to a catalogue and the picks, or to the first fault.
-use Rattle.std.specs.Prelude.{ℕ, ◌^◌, Bool, cond, List, length, Ok, Err, Result, nat_lt}
+use Rattle.std.specs.Prelude.{ℕ, ◌^◌, cond, List, length, Ok, Err, Result, nat_lt}
 use Rattle.texts.specs.Faults.{Fault}
 use Rattle.rule_text.specs.Catalogue.{Catalogue}
 use Rattle.rule_text.specs.RuleLines.{rules_text}

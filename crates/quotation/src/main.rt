@@ -20,23 +20,13 @@ fn read_text(rt: &HostRuntime, name: &str) -> anyhow::Result<Vec<u8>> {
     }
 }
 
-fn run(rt: &HostRuntime) -> anyhow::Result<()> {
-    let rules = read_text(rt, "rules.txt")?;
-    let picks = read_text(rt, "picks.txt")?;
+fn main(rt: HostRuntime) -> anyhow::Result<()> {
+    let rules = read_text(&rt, "rules.txt")?;
+    let picks = read_text(&rt, "picks.txt")?;
     let mut listing = [0u8; 1792];
     let written = quote(&rules, &picks, BUDGET, &mut listing);
     if let Some(lines) = listing.get(0..written) {
         rt.write_all(lines)?;
     }
-    explain(rt, &rules, &picks, BUDGET)
-}
-
-fn main(rt: HostRuntime) -> anyhow::Result<()> {
-    match run(&rt) {
-        Ok(()) => Ok(()),
-        Err(error) => {
-            eprintln!(rt; "quotation: {error}")?;
-            Err(error)
-        }
-    }
+    explain(&rt, &rules, &picks, BUDGET)
 }

@@ -1,5 +1,5 @@
 -- What a session's completion says of an order, in lines.
-use Rattle.std.proofs.Common.{◌≡◌, ℕ, ◌+◌, ◌-◌, ◌*◌, ◌^◌, ◌<◌, ◌≤◌, Bool, true, false, cond, ◌&&◌, ltb, leb, ◌⊎◌, List, ◌++◌, map, length, take, drop, Some, None, Option, sym, refl, ap, ◌∙◌, subst, inl, inr, true≢false, arith}
+use Rattle.std.proofs.Common.{◌≡◌, ℕ, ◌+◌, ◌-◌, ◌*◌, ◌^◌, ◌<◌, ◌≤◌, Bool, true, ltb, leb, List, ◌++◌, map, length, take, drop, Some, None, Option, sym, refl, ap, ◌∙◌, subst, inl, inr, arith}
 use lib.ListN.{length-map}
 use Rattle.std.proofs.lemmas.Bool.{cond-true, cond-false, le-leb, le-ltb, and_from}
 use Rattle.std.proofs.lemmas.List.{take_at}
@@ -8,9 +8,9 @@ use Rattle.builds.specs.Values.{num, bits}
 use Rattle.builds.proofs.Firsts.{first→}
 use Rattle.bank.specs.Banks.{Bank}
 use Rattle.search_theory.specs.Orders.{fulfils, open_options}
-use Rattle.search_theory.specs.Trails.{Point, start}
+use Rattle.search_theory.specs.Trails.{start}
 use Rattle.search_theory.specs.Searches.{quest, End, built, nothing, out, Search}
-use Rattle.search_theory.specs.Calls.{Reply, spent, State, refusal, complete, said, Completes, Refuses, Does}
+use Rattle.search_theory.specs.Calls.{spent, State, refusal, complete, said, Completes, Refuses, Does}
 use Rattle.search_theory.proofs.Law.{search_bound}
 use Rattle.session.specs.declared.completion.Verdict.TheVariants.{Build as Found, NoBuild, Spent}
 use Rattle.session.specs.declared.completion.Verdict.{Verdict}

@@ -1,5 +1,5 @@
 -- A fault of neither text has no line.
-use Rattle.std.proofs.Common.{◌≡◌, ℕ, zero, suc, List, [], Some, None, Ok, Err, Option, Result, sym, refl, ap, ◌∙◌, subst, arith}
+use Rattle.std.proofs.Common.{◌≡◌, ℕ, zero, suc, List, [], Some, None, Ok, Err, Result, sym, refl, ap, ◌∙◌}
 use Rattle.lines.specs.Lines.{lines_of}
 use Rattle.texts.specs.declared.faults.Text.TheVariants.{Neither}
 use Rattle.texts.specs.declared.faults.TextFault.{TextFault}

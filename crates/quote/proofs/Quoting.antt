@@ -1,11 +1,11 @@
 -- The lines of an order, by what was read.
-use Rattle.std.proofs.Common.{◌≡◌, ℕ, ◌+◌, ◌-◌, ◌^◌, ◌<◌, ◌⊎◌, List, Ok, Err, Option, Result, sym, refl, ap, ◌∙◌, subst, inl, inr}
+use Rattle.std.proofs.Common.{◌≡◌, ℕ, List, Ok, Err, Option, Result, refl, subst}
 use Rattle.builds.specs.Builds.{Build}
 use Rattle.texts.specs.Faults.{Fault}
-use Rattle.listing.specs.Listing.{spent_line, fault_line}
+use Rattle.listing.specs.Listing.{fault_line}
 use Rattle.pick_text.specs.Orders.{Order}
 use Rattle.order_theory.specs.Asked.{first_asked, unpicked_in}
-use Rattle.quote.specs.Quoting.{found_lines, Tells, Lists, Written}
+use Rattle.quote.specs.Quoting.{Tells, Lists, Written}
 
 -- what is told of the tables is told of the order that they hold
 pub order_told : (order : Result Order Fault) (o : Order) (found : Option Build) (f budget : ℕ) (old : List ℕ) (n : ℕ) (new : List ℕ) → Ok o ≡ order → found ≡ first_asked o → f ≡ unpicked_in o →

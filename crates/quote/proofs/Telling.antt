@@ -1,5 +1,5 @@
 -- A new session is told its picks one by one.
-use Rattle.std.proofs.Common.{◌≡◌, ℕ, ◌+◌, ◌<◌, ◌≤◌, Bool, true, false, cond, not, ◌||◌, leb, ◌⊎◌, List, length, get_or, set, replicate, sym, refl, ap, ◌∙◌, inl, inr, arith}
+use Rattle.std.proofs.Common.{◌≡◌, ℕ, ◌+◌, ◌<◌, ◌≤◌, not, ◌||◌, leb, ◌⊎◌, List, length, get_or, set, replicate, sym, ap, ◌∙◌, inl, inr, arith}
 use lib.ListN.{length-replicate}
 use Rattle.std.proofs.lemmas.List.{length-set, get_or-set_same, get_or-set_other, get_or_default, get_or_past, get_or-replicate, ext_get_or}
 use Rattle.std.proofs.lemmas.Bool.{cases_lt, cases_eq, lt-leb, or_from, cond-false}

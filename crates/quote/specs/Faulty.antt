@@ -1,5 +1,5 @@
 -- The fault of an order, and the line that is at fault.
-use Rattle.std.specs.Prelude.{◌≡◌, ℕ, zero, suc, ◌-◌, Bool, true, false, List, [], length, take, drop, Some, None, Ok, Err, Option, Result}
+use Rattle.std.specs.Prelude.{ℕ, zero, suc, ◌-◌, Bool, true, false, List, [], length, take, drop, Some, None, Ok, Err, Option, Result}
 use Rattle.lines.specs.declared.place.LinePlace.{LinePlace}
 use Rattle.texts.specs.declared.faults.TextFault.{TextFault}
 use Rattle.texts.specs.Faults.{Fault}

@@ -65,13 +65,7 @@ pub fn faulty_line<'a>(rules: &'a [u8], picks: &'a [u8], budget: u64) -> Option<
 }
 
 // The same for C: whether there is a faulty line, and where it stands; the place handed in stays as it was where there is none.
-#[unsafe(no_mangle)]
-pub extern "C" fn faulty_line_place(
-    rules: &[u8],
-    picks: &[u8],
-    budget: u64,
-    place: &mut FaultyPlace,
-) -> bool
+pub fn faulty_line_place(rules: &[u8], picks: &[u8], budget: u64, place: &mut FaultyPlace) -> bool
     ensures told { result ≡ place_told (line_in (order_of rules.now picks.now budget) rules.now picks.now) }
     ensures place { place.new ≡ place_left (line_in (order_of rules.now picks.now budget) rules.now picks.now) place.old }
 {

@@ -19,8 +19,7 @@ const LISTING_ROOM: usize = 1792;
 
 // Reads the rules and the picks, and writes the first build that they allow, that there is none, that the budget ran out,
 // or the first fault. Says how many bytes it wrote; with too little room that is 0.
-#[unsafe(no_mangle)]
-pub extern "C" fn quote(rules: &[u8], picks: &[u8], budget: u64, listing: &mut [u8]) -> usize
+pub fn quote(rules: &[u8], picks: &[u8], budget: u64, listing: &mut [u8]) -> usize
     ensures quoted { Quoted rules.now picks.now budget listing.old result listing.new }
     ensures width { WidthLaw }
 {

@@ -1,5 +1,5 @@
 -- The tables stay even from line to line, and a table's own catalogue is the whole one's part.
-use Rattle.std.proofs.Common.{◌≡◌, ℕ, ◌<◌, ◌≤◌, true, false, cond, eqb, List, [], length, get_or, Ok, Err, Result, sym, refl, ap, ◌∙◌, arith, MatchResult}
+use Rattle.std.proofs.Common.{◌≡◌, ℕ, ◌<◌, ◌≤◌, true, false, cond, [], length, get_or, Ok, Err, Result, sym, ap, ◌∙◌, arith, MatchResult}
 use Rattle.std.proofs.lemmas.Bool.{eqb-true, cond-true, cond-false}
 use Rattle.diagrams.specs.declared.table.Diagrams.{Diagrams}
 use Rattle.diagrams.specs.Filled.{root_nodes}

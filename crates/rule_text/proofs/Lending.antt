@@ -1,7 +1,7 @@
 -- The lent memory behind the rows.
-use Rattle.std.proofs.Common.{◌≡◌, ℕ, suc, ◌+◌, ◌-◌, ◌<◌, ◌≤◌, min, List, [], ◌∷◌, ◌++◌, length, take, drop, set, sym, refl, ap, ◌∙◌, subst, add-one, arith}
+use Rattle.std.proofs.Common.{◌≡◌, ◌+◌, ◌≤◌, min, ◌++◌, length, drop, set, sym, refl, ap, ◌∙◌, subst, arith}
 use Rattle.std.proofs.lemmas.Slice.{drop-append-drop}
-use Rattle.std.proofs.lemmas.List.{length-take-le, take-append-drop, length-set, take_more_set, drop-set-lt}
+use Rattle.std.proofs.lemmas.List.{length-take-le, take-append-drop, length-set, drop-set-lt}
 use Rattle.diagrams.specs.declared.row.Row.{Row}
 use Rattle.diagrams.specs.declared.table.Diagrams.{Diagrams}
 use Rattle.diagrams.specs.Causes.{room_of}

@@ -1,5 +1,5 @@
 -- One line, check by check: what its fields, the room and the table's own checks leave of it.
-use Rattle.std.proofs.Common.{◌≡◌, ℕ, List, take, Some, None, Ok, Err, Option, Result, sym, refl, ap, ◌∙◌, arith}
+use Rattle.std.proofs.Common.{◌≡◌, ℕ, List, take, Some, None, Ok, Err, Option, Result, sym, refl}
 use Rattle.bank.specs.Numbers.{Located}
 use Rattle.lines.specs.Lines.{Line}
 use Rattle.clauses.specs.Opening.{opened}

@@ -1,10 +1,8 @@
 -- A table without rules is refused for its width alone.
-use Rattle.std.proofs.Common.{◌≡◌, ℕ, ◌<◌, ◌≤◌, Bool, true, false, cond, ◌&&◌, ◌||◌, eqb, ltb, leb, ◌⊎◌, List, [], Some, None, Ok, Err, Option, Result, sym, refl, ap, ◌∙◌, inl, inr, arith}
-use Rattle.std.proofs.lemmas.Bool.{cases_lt, and_from, and_left, and_right, or_left, or_right, or_from, cond-true, cond-false, lt-leb, le-leb, lt-ltb, le-ltb, eq-eqb, ne_eqb, cases_Bool, cases_eq}
+use Rattle.std.proofs.Common.{◌≡◌, ℕ, ◌≤◌, true, false, ◌&&◌, leb, ◌⊎◌, [], Some, None, Ok, Option, refl, inl, inr, arith}
+use Rattle.std.proofs.lemmas.Bool.{cases_lt, and_from, and_left, and_right, or_left, or_right, or_from, cond-true, lt-leb, le-leb, lt-ltb, le-ltb, eq-eqb, ne_eqb, cases_Bool, cases_eq}
 use Rattle.bank.specs.Numbers.{Located}
-use Rattle.bank.specs.declared.table_fault.TableCause.TheVariants.{BadWidth, TooMany}
-use Rattle.diagrams.specs.Causes.{first, at_item, refused_at, and_then, width_bad, sizes_cause, rows_cause, roots_cause, open_cause as diagrams_cause}
-use Rattle.diagrams.proofs.Clear.{then_stops, then_goes_on, at_found, at_passed}
+use Rattle.diagrams.specs.Causes.{first, refused_at, and_then, width_bad, sizes_cause, rows_cause, roots_cause, open_cause as diagrams_cause}
 use Rattle.clauses.specs.Opening.{open_cause as clauses_cause, opened, or_kept}
 use Rattle.groups.specs.Faults.{open_cause as groups_cause, replied}
 use Rattle.rule_text.specs.Opened.{width_cause}

@@ -1,5 +1,5 @@
 -- Reading line after line: what is left of the text decides, from the catalogue read so far.
-use Rattle.std.proofs.Common.{◌≡◌, ℕ, suc, ◌+◌, ◌-◌, ◌<◌, ◌≤◌, true, false, cond, eqb, List, [], ◌∷◌, length, take, drop, IfOk, Some, None, Ok, Err, Option, Result, sym, refl, ap, ◌∙◌, subst, arith}
+use Rattle.std.proofs.Common.{◌≡◌, ℕ, ◌+◌, ◌-◌, ◌<◌, ◌≤◌, false, eqb, List, [], ◌∷◌, length, take, drop, IfOk, Some, None, Ok, Err, Option, Result, sym, refl, ap, ◌∙◌, subst, arith}
 use Rattle.std.proofs.lemmas.Bool.{cond-false}
 use Rattle.lines.specs.Lines.{Line, lines_of}
 use Rattle.lines.specs.declared.place.LinePlace.{LinePlace}
@@ -9,7 +9,7 @@ use Rattle.diagrams.specs.Causes.{room_of}
 use Rattle.diagrams.specs.Filled.{root_nodes}
 use Rattle.clauses.specs.declared.table.Clauses.{Clauses}
 use Rattle.groups.specs.declared.table.Groups.{Groups}
-use Rattle.texts.specs.Faults.{Layered, Fault, at_line}
+use Rattle.texts.specs.Faults.{Layered, at_line}
 use Rattle.texts.specs.Fields.{carried}
 use Rattle.texts.specs.Causes.{faulted}
 use Rattle.rule_text.specs.declared.progress.Progress.{Progress}

@@ -1,6 +1,6 @@
 -- How a rule text is read, line by line, where there is room for so many rows. The order of the checks within a line: letter,
 -- length up to k (or all), those fields, too many, full length, the other fields, the table's own checks.
-use Rattle.std.specs.Prelude.{ℕ, zero, suc, ◌+◌, Bool, true, false, cond, ◌&&◌, List, [], ◌∷◌, ◌++◌, length, Some, None, Ok, Err, Option, Result, ◌==◌, nat_le, slice_index, slice_index_or}
+use Rattle.std.specs.Prelude.{ℕ, zero, suc, ◌+◌, Bool, false, cond, ◌&&◌, List, [], ◌∷◌, ◌++◌, length, Some, None, Ok, Err, Option, Result, ◌==◌, nat_le, slice_index, slice_index_or}
 use Rattle.bank.specs.Numbers.{Located}
 use Rattle.lines.specs.Lines.{Line, lines_of}
 use Rattle.diagrams.specs.declared.row.Row.{Row}

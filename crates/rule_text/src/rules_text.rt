@@ -5,7 +5,7 @@ ghost use Rattle.texts.specs.Causes.{faulted};
 ghost use Rattle.rule_text.specs.RuleLines.{rules_text, rules_until};
 ghost use Rattle.rule_text.specs.Opened.{Opened};
 ghost use Rattle.rule_text.specs.View.{Held, Lent};
-ghost use Rattle.rule_text.specs.Frames.{framed, begun, finished as IsFinishedAs};
+ghost use Rattle.rule_text.specs.Frames.{framed, begun, finished as finished_of};
 
 use crate::frame::Frame;
 use crate::opening::open_tables;
@@ -35,7 +35,7 @@ fn begin(diagrams: &mut Diagrams<'_>, clauses: &mut Clauses, groups: &mut Groups
 
 // After the last line. A text without a line lacks the letter of its first.
 fn finished(progress: Progress) -> Result<Frame, TextFault>
-    ensures { result ≡ IsFinishedAs progress }
+    ensures { result ≡ finished_of progress }
 {
     match progress.last {
         Some(_) => Ok(Frame {

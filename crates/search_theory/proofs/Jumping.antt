@@ -1,9 +1,8 @@
 -- Conflicts as the search analyses them: the clash of a dead rule, the decision that flips, and the level that is kept.
-use Rattle.std.proofs.Common.{◌≡◌, ℕ, zero, suc, ◌<◌, ◌≤◌, max, Bool, true, false, cond, not, ◌&&◌, eqb, ltb, ◌≢◌, ◌⊎◌, List, [], ◌∷◌, length, get_or, take, sym, refl, ap, ◌∙◌, subst, inl, inr, true≢false, arith}
+use Rattle.std.proofs.Common.{◌≡◌, ℕ, zero, suc, ◌<◌, ◌≤◌, Bool, true, false, cond, not, ◌&&◌, eqb, ltb, ◌≢◌, List, [], ◌∷◌, length, get_or, take, sym, refl, ap, ◌∙◌, subst, inl, inr, true≢false, arith}
 use mathlib.Core.Bool.{false≢true}
-use Rattle.std.proofs.lemmas.Bool.{cases_eq, cases_lt, cases_Bool, eq-eqb, ne_eqb, eqb-true, ltb-true, and_parts, and_from, or_left, or_right}
+use Rattle.std.proofs.lemmas.Bool.{cases_eq, cases_lt, cases_Bool, eq-eqb, ne_eqb, ltb-true, and_parts, and_from, or_left, or_right}
 use Rattle.builds.specs.Builds.{Build, bit, Passes, HasNoBuild}
-use Rattle.builds.specs.Values.{num}
 use Rattle.bank.specs.Banks.{Bank, Duties, meets_all}
 use Rattle.bank.specs.Reading.{Local}
 use Rattle.search_theory.specs.Orders.{fulfils}
@@ -12,7 +11,7 @@ use Rattle.search_theory.specs.Searches.{quest, any_below, any_of, is_dead, mark
 use Rattle.search_theory.specs.Denials.{Set, denial_of}
 use Rattle.search_theory.specs.Backed.{Root, Has, Roots, Backed, Clash, alone, Gathers}
 use Rattle.search_theory.specs.Jumps.{dead_rule, reads_of, behind, is_decision, LastIn, NoDecision, top_level}
-use Rattle.search_theory.proofs.Sound.{Sound, Under, Over, under_level, cut_keeps}
+use Rattle.search_theory.proofs.Sound.{Sound, Over, under_level, cut_keeps}
 use Rattle.search_theory.proofs.Banks.{any_true, at_values, length_values, up_to_values, store_clause}
 use Rattle.search_theory.proofs.Dense.{Held}
 use Rattle.search_theory.proofs.Backs.{values_part, bank_clash, bank_rests, learnt_clash, learnt_rests, backed_change, backed_more, alone_roots, alone_holds, clash_none, clash_conflict}

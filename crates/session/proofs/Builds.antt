@@ -2,7 +2,7 @@
 use Rattle.std.proofs.Common.{◌≡◌, ℕ, zero, suc, ◌<◌, ◌≤◌, Bool, true, false, ◌≢◌, ◌⊎◌, List, length, get_or, take, sym, refl, ap, ◌∙◌, inl, inr, arith}
 use Rattle.std.proofs.lemmas.Bool.{cases_Bool, cases_lt}
 use Rattle.std.proofs.lemmas.List.{get_or-take, get_or_default, length-take-le}
-use Rattle.builds.specs.Builds.{Build, bit}
+use Rattle.builds.specs.Builds.{bit}
 use Rattle.builds.specs.Values.{num, bits, up_to, allows, fits}
 use Rattle.builds.proofs.Tables.{up_to_at, fits_at, length_bits, bit_bits}
 use Rattle.search_theory.proofs.Picks.{fits_intro}

@@ -1,22 +1,18 @@
 -- What complete and resume have done once their search has ended or stopped.
-use Rattle.std.proofs.Common.{◌≡◌, ℕ, ◌<◌, ◌≤◌, Bool, true, false, List, [], ◌∷◌, ◌++◌, map, length, take, drop, Some, None, Ok, Option, sym, refl, ap, ◌∙◌, subst, true≢false, arith}
+use Rattle.std.proofs.Common.{◌≡◌, ℕ, true, false, List, [], ◌∷◌, ◌++◌, map, length, take, drop, Some, None, Ok, Option, sym, refl, ap, ◌∙◌, subst, true≢false, arith}
 use Rattle.std.proofs.lemmas.List.{take_all, take-append-le, length-map}
 use Rattle.builds.specs.Builds.{Build, first_build}
 use Rattle.builds.specs.Values.{num, bits}
 use Rattle.bank.specs.Banks.{Bank, Duties}
 use Rattle.search_theory.specs.Orders.{fulfils}
-use Rattle.search_theory.specs.Trails.{read}
 use Rattle.search_theory.specs.Calls.{Call, Reply, State, said, goes_on, Does}
 use Rattle.search_theory.specs.Held.{SessionOk}
-use Rattle.search_theory.specs.Law.{whole, Answer, is_build, is_none, asks, finished, completed, answer_to}
-use Rattle.search_theory.proofs.Sound.{length_read}
+use Rattle.search_theory.specs.Law.{whole, Answer, is_build, is_none, asks, completed, answer_to}
 use Rattle.search_theory.proofs.Kept.{kept_does}
 use Rattle.search_theory.proofs.Ends.{does_right}
-use Rattle.trail.specs.View.{trail_of}
 use Rattle.search.specs.Standing.{Standing}
 use Rattle.session.specs.declared.completion.Verdict.{Verdict}
 use Rattle.session.specs.declared.completion.Verdict.TheVariants.{Build as Found, NoBuild, Spent}
-use Rattle.session.specs.declared.completion.Completion.{Completion}
 use Rattle.session.specs.declared.session.Session.{Session}
 use Rattle.session.specs.View.{state_of, Stands}
 use Rattle.session.specs.Completing.{stays_open, end_by, filled, completion_reply, Settles, FirstFound}

@@ -1,5 +1,5 @@
 -- What the calls keep of a session.
-use Rattle.std.proofs.Common.{◌≡◌, ℕ, true, false, Some, None, Option, sym, ap, ◌∙◌}
+use Rattle.std.proofs.Common.{◌≡◌, ℕ, false, Some, None, Option, sym, ap, ◌∙◌}
 use mathlib.Core.Bool.{false≢true}
 use Rattle.bank.specs.Banks.{Bank}
 use Rattle.search_theory.specs.Calls.{Call, pick, release, Reply, refused, done, build, no_build, spent, only, either, State, refusal, Refuses, Does}

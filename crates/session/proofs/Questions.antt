@@ -1,5 +1,5 @@
 -- What forced has done once its searches have ended or stopped.
-use Rattle.std.proofs.Common.{◌≡◌, ℕ, ◌+◌, ◌-◌, ◌^◌, ◌<◌, ◌≤◌, min, Bool, true, false, not, eqb, List, set, Some, Ok, sym, refl, ap, ◌∙◌, subst, arith}
+use Rattle.std.proofs.Common.{◌≡◌, ℕ, ◌+◌, ◌-◌, ◌^◌, ◌<◌, ◌≤◌, min, Bool, true, false, not, eqb, set, Ok, sym, refl, ap, ◌∙◌, subst, arith}
 use mir.Val.{bool_byte}
 use Rattle.builds.specs.Builds.{Build, bit}
 use Rattle.builds.specs.Values.{num}
@@ -9,7 +9,7 @@ use Rattle.search_theory.specs.Trails.{Entry, unset, picked, decided, implied, v
 use Rattle.search_theory.specs.Searches.{shown, quest, End, built, nothing, out, Builds, Search}
 use Rattle.search_theory.specs.Calls.{State, only, forced, against, forced_second, Does}
 use Rattle.search_theory.specs.Held.{SessionOk}
-use Rattle.search_theory.specs.Law.{about, Answer, finished}
+use Rattle.search_theory.specs.Law.{about, finished}
 use Rattle.search_theory.proofs.Sound.{read_bit}
 use Rattle.search_theory.proofs.Doing.{forced_twice}
 use Rattle.search_theory.proofs.Ends.{does_right}

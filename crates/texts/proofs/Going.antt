@@ -1,5 +1,5 @@
 -- What is read from a line goes on from its fields: the fields alone say how.
-use Rattle.std.proofs.Common.{◌≡◌, ℕ, ◌+◌, ◌*◌, Bool, true, false, cond, List, length, drop, IfOk, Some, None, Ok, Err, Option, Result, sym, refl, ap, ◌∙◌, MatchResult}
+use Rattle.std.proofs.Common.{◌≡◌, ℕ, ◌+◌, ◌*◌, Bool, true, false, cond, List, length, drop, IfOk, Some, None, Ok, Err, Option, Result, ap, ◌∙◌, MatchResult}
 use Rattle.lines.specs.Lines.{Line}
 use Rattle.texts.specs.declared.faults.LineFault.{LineFault}
 use Rattle.texts.specs.declared.faults.LineFault.TheVariants.{Field}

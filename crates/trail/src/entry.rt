@@ -1,7 +1,7 @@
 // One option's entry in the trail: its value, where the value is from, and at which level it stands.
 ghost use Rattle.std.specs.Prelude.{◌≡◌};
 ghost use Rattle.search_theory.specs.Trails.{is_unset, level as level_of};
-ghost use Rattle.search_theory.specs.Searches.{shown as ShownOf};
+ghost use Rattle.search_theory.specs.Searches.{shown as shown_of};
 ghost use Rattle.trail.specs.View.{entry_of, open_row};
 ghost use Rattle.trail.specs.Rows.{start_row, kept_row, is_decided};
 
@@ -57,7 +57,7 @@ impl Entry {
 
     // The value as a values table has it: 2 where the option is open.
     pub(crate) fn shown(self) -> u8
-        ensures { result ≡ ShownOf (entry_of self) }
+        ensures { result ≡ shown_of (entry_of self) }
     {
         match self.origin {
             None => 2,

@@ -1,5 +1,5 @@
 -- The worked examples hold: each is computed from the meaning.
-use mathlib.Core.Path.{◌≡◌, refl}
+use mathlib.Core.Path.{refl}
 use Rattle.builds.specs.Builds.{some_build, first_build}
 use Rattle.bank.specs.Banks.{meets_first}
 use Rattle.layer_theory.specs.Layers.{pair_meets}

@@ -1,6 +1,5 @@
 -- The worked examples, stated by the meanings of the banks.
-use Rattle.std.specs.Prelude.{◌≡◌, List, [], ◌∷◌, Bool, true, false, ◌&&◌, ℕ, set}
-use Rattle.builds.specs.Builds.{Build}
+use Rattle.std.specs.Prelude.{◌≡◌, List, [], ◌∷◌, true, false, ◌&&◌, ℕ, set}
 use Rattle.builds.specs.Values.{fits}
 use Rattle.builds.specs.Answers.{Said, dead, live}
 use Rattle.bank.specs.Banks.{Bank}

@@ -1,4 +1,4 @@
-use Rattle.std.proofs.Common.{◌≡◌, sym, ◌∙◌, arith}
+use Rattle.std.proofs.Common.{sym, ◌∙◌, arith}
 use Rattle.builds.specs.Builds.{bit}
 use Rattle.builds.proofs.Orders.{before_law, before_step, before_end, differ, alike}
 use Rattle.builds.proofs.Answering.{first_build_law}

@@ -1,4 +1,4 @@
-use Rattle.std.proofs.Common.{◌≡◌, ◌+◌, Bool, true, false, ◌&&◌, get_or, drop, sym, ap, ◌∙◌, arith}
+use Rattle.std.proofs.Common.{◌≡◌, ◌+◌, true, false, ◌&&◌, get_or, drop, sym, ap, ◌∙◌, arith}
 use Rattle.builds.specs.Builds.{bit}
 use Rattle.builds.specs.Values.{fits, allows}
 use Rattle.builds.proofs.Tables.{fits_step, fits_end}

@@ -1,4 +1,4 @@
-use Rattle.std.proofs.Common.{◌≡◌, sym, ap, ◌∙◌, arith}
+use Rattle.std.proofs.Common.{sym, ap, ◌∙◌, arith}
 use Rattle.std.proofs.lemmas.Result.{err_from_is_err_and}
 use Rattle.bank.specs.declared.table_fault.TableCause.TheVariants.{RootUnknown}
 use Rattle.diagrams.specs.Causes.{roots_cause, refused_at}

@@ -1,4 +1,4 @@
-use Rattle.std.proofs.Common.{◌≡◌, sym, refl, ap, arith}
+use Rattle.std.proofs.Common.{sym, ap}
 use Rattle.diagrams.specs.Causes.{refused_at}
 use Rattle.diagrams.proofs.check.refused_at.Goals as goal
 

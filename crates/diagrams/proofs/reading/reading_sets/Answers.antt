@@ -1,4 +1,4 @@
-use Rattle.std.proofs.Common.{◌≡◌, sym, ◌∙◌, arith, length-set}
+use Rattle.std.proofs.Common.{sym, ◌∙◌, arith, length-set}
 use Rattle.diagrams.proofs.Reaching.{reaches_end}
 use Rattle.diagrams.proofs.Sets.{sets_more}
 use Rattle.diagrams.proofs.reading.reading_sets.Goals as goal

@@ -1,10 +1,9 @@
-use Rattle.std.proofs.Common.{◌≡◌, ◌+◌, ◌^◌, true, eqb, length, get_or, drop, sym, ap, ◌∙◌, arith}
+use Rattle.std.proofs.Common.{◌≡◌, ◌+◌, ◌^◌, length, get_or, drop, sym, ap, ◌∙◌, arith}
 use Rattle.std.proofs.lemmas.List.{at_drop_more, at_drop_all}
 use Rattle.std.proofs.lemmas.Bool.{cond-true, cond-false, eq-eqb, ne_eqb}
-use Rattle.fields.specs.declared.seen.Seen.{Seen}
-use Rattle.fields.specs.declared.seen.Seen.TheVariants.{Blank, Number, Off}
+use Rattle.fields.specs.declared.seen.Seen.TheVariants.{Blank}
 use Rattle.fields.specs.Bounds.{seen_small}
-use Rattle.fields.specs.Reading.{seen_from, after, number_seen, field_value}
+use Rattle.fields.specs.Reading.{seen_from, number_seen, field_value}
 use Rattle.fields.proofs.Columns.{field_law, small_enough, small_after}
 use Rattle.fields.proofs.read.read_field.Goals as goal
 

@@ -1,7 +1,7 @@
-use Rattle.std.proofs.Common.{◌≡◌, ℕ, ◌+◌, ◌-◌, ◌/◌, ◌%◌, ◌^◌, true, cond, ◌&&◌, eqb, ltb, ◌≢◌, length, get_or, set, sym, ap, ◌∙◌, inl, inr, add-one, arith, below_more}
+use Rattle.std.proofs.Common.{◌≡◌, ◌+◌, ◌-◌, ◌/◌, ◌%◌, ◌^◌, cond, ◌&&◌, eqb, ltb, ◌≢◌, length, sym, ap, ◌∙◌, add-one, arith, below_more}
 use Rattle.std.proofs.lemmas.List.{get_or-set_same, get_or-set_other}
 use Rattle.std.proofs.lemmas.Bool.{and_from, lt-ltb, eq-eqb}
-use Rattle.fields.specs.Field.{column, field_of}
+use Rattle.fields.specs.Field.{column}
 use Rattle.fields.proofs.Powers.{cut_more}
 use Rattle.fields.proofs.Columns.{column_rest, field_from}
 use Rattle.fields.proofs.write.write_field.Goals as goal

@@ -1,4 +1,4 @@
-use Rattle.std.proofs.Common.{◌≡◌, refl, arith}
+use Rattle.std.proofs.Common.{refl, arith}
 use Rattle.lines.proofs.Parts.{lines_law, closed_at, open_at, past_end}
 use Rattle.lines.proofs.next.next_line.Goals as goal
 

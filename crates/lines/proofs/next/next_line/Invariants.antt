@@ -1,4 +1,4 @@
-use Rattle.std.proofs.Common.{◌≡◌, ℕ, ◌<◌, ◌≤◌, ◌≢◌, get_or}
+use Rattle.std.proofs.Common.{ℕ, ◌<◌, ◌≤◌, ◌≢◌, get_or}
 use Rattle.lines.proofs.next.next_line.Given as goal
 
 abbrev pub invariant-loop-i : goal.invariant-loop-i

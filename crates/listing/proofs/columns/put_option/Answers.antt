@@ -1,8 +1,7 @@
-use Rattle.std.proofs.Common.{◌≡◌, ℕ, ◌+◌, List, [], ◌∷◌, ◌++◌, length, sym, refl, ap, ◌∙◌, append_assoc, arith}
+use Rattle.std.proofs.Common.{◌+◌, [], ◌∷◌, ◌++◌, refl, ap, ◌∙◌, append_assoc, arith}
 use Rattle.std.proofs.lemmas.List.{length-append}
 use Rattle.fields.specs.Field.{field_of}
 use Rattle.listing.specs.Places.{put_at}
-use Rattle.listing.specs.Listing.{option_line}
 use Rattle.listing.proofs.Puts.{put_next}
 use Rattle.listing.proofs.Lines.{field_length}
 use Rattle.listing.proofs.columns.put_option.Goals as goal

@@ -1,4 +1,4 @@
-use Rattle.std.proofs.Common.{◌≡◌, sym, refl, arith}
+use Rattle.std.proofs.Common.{sym, refl, arith}
 use Rattle.pick_text.proofs.Picking.{picked_already, picked_now, picked_past}
 use Rattle.pick_text.proofs.pick_line.pick.Goals as goal
 

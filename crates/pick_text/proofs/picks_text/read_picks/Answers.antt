@@ -1,4 +1,4 @@
-use Rattle.std.proofs.Common.{◌≡◌, ◌+◌, ◌<◌, Ok, Err, sym, refl, ap, ◌∙◌, arith}
+use Rattle.std.proofs.Common.{◌≡◌, ◌+◌, ◌<◌, Ok, Err, sym, ap, ◌∙◌, arith}
 use Rattle.lines.specs.Places.{next_start}
 use Rattle.std.proofs.lemmas.Result.{err_from_is_err_and, MatchResult-at_err}
 use Rattle.texts.specs.declared.faults.Text.TheVariants.{Picks}

@@ -1,4 +1,4 @@
-use Rattle.std.proofs.Common.{◌≡◌, ℕ, ◌-◌, length, take, sym, refl, ap, ◌∙◌, subst, arith}
+use Rattle.std.proofs.Common.{◌≡◌, ◌-◌, length, take, sym, ap, ◌∙◌, subst, arith}
 use Rattle.search_theory.specs.Held.{PicksOk}
 use Rattle.session.specs.declared.completion.Verdict.TheVariants.{Build as Found, NoBuild}
 use Rattle.session.specs.View.{state_of}

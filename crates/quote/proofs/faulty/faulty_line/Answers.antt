@@ -1,4 +1,3 @@
-use Rattle.std.proofs.Common.{◌≡◌, [], Some, None, sym, refl, ap, ◌∙◌}
 use Rattle.pick_text.specs.Orders.{order_of}
 use Rattle.quote.proofs.Faulting.{neither_line}
 use Rattle.quote.proofs.faulty.faulty_line.Goals as goal

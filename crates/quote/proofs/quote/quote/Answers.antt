@@ -1,4 +1,4 @@
-use Rattle.std.proofs.Common.{◌≡◌, ℕ, ◌<◌, ◌≤◌, length, sym, refl, ap, ◌∙◌, subst, arith}
+use Rattle.std.proofs.Common.{length, sym, refl, arith}
 use Rattle.std.proofs.lemmas.Bool.{lt-ltb, le-ltb, le-leb, and_from}
 use Rattle.texts.specs.Causes.{fault_of}
 use Rattle.listing.specs.Listing.{fault_line, fault_fits}
@@ -7,7 +7,7 @@ use Rattle.order_theory.proofs.LineNumbers.{line_small}
 use Rattle.order_theory.proofs.Ordered.{budget_read, order_picks, order_first, order_open}
 use Rattle.quote.proofs.Answering.{put_lines}
 use Rattle.quote.proofs.Quoting.{order_told, fault_told}
-use Rattle.quote.specs.Quoting.{Spaced, Lists}
+use Rattle.quote.specs.Quoting.{Lists}
 use Rattle.pick_text.specs.Orders.{order_of}
 use Rattle.quote.proofs.quote.quote.Goals as goal
 

@@ -1,4 +1,4 @@
-use Rattle.std.proofs.Common.{◌≡◌, ℕ, ◌+◌, ◌<◌, ◌≤◌, ◌∷◌, length, get_or, drop, set, sym, refl, ap, ◌∙◌, subst, arith}
+use Rattle.std.proofs.Common.{◌≡◌, ◌+◌, ◌<◌, length, get_or, set, sym, refl, ◌∙◌, subst, arith}
 use Rattle.std.proofs.lemmas.Bool.{le-leb, lt-leb}
 use Rattle.std.proofs.lemmas.List.{get_or_default}
 use Rattle.search_theory.specs.Calls.{State}
@@ -8,7 +8,7 @@ use Rattle.search_theory.proofs.Law.{answers_right, finishes, same_answers}
 use Rattle.session.specs.View.{state_of, Stands}
 use Rattle.replay.specs.declared.call.Call.TheVariants.{Forget, Pick}
 use Rattle.replay.specs.Replies.{call_of, reply_of}
-use Rattle.replay.specs.Replayed.{events, Replayed}
+use Rattle.replay.specs.Replayed.{events}
 use Rattle.replay.proofs.Noting.{events_none, events_more, drop_set_before}
 use Rattle.replay.proofs.replay.replay.Goals as goal
 

@@ -1,4 +1,4 @@
-use Rattle.std.proofs.Common.{◌≡◌, get_or, sym, refl, ap, arith}
+use Rattle.std.proofs.Common.{sym, ap, arith}
 use Rattle.std.proofs.lemmas.List.{get_or_past}
 use Rattle.rule_text.specs.RuleLines.{kind_of}
 use Rattle.rule_text.proofs.kind.first_kind.Goals as goal

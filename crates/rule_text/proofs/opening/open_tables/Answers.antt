@@ -1,9 +1,8 @@
-use Rattle.std.proofs.Common.{◌≡◌, ℕ, [], sym, refl, ap, ◌∙◌, arith}
+use Rattle.std.proofs.Common.{◌≡◌, ℕ, [], refl, ◌∙◌, arith}
 use Rattle.clauses.specs.Opening.{open_cause as clauses_cause}
 use Rattle.clauses.specs.Table.{rules_of as clauses_of}
 use Rattle.std.proofs.lemmas.Result.{err_from_is_err_and}
 use Rattle.diagrams.specs.Causes.{room_of}
-use Rattle.rule_text.specs.Opened.{width_cause}
 use Rattle.rule_text.proofs.Openings.{no_diagrams, no_clauses, no_groups, stands_new}
 use Rattle.rule_text.proofs.Lending.{lent_kept, lent_front}
 use Rattle.rule_text.proofs.opening.open_tables.Goals as goal

@@ -1,13 +1,12 @@
-use Rattle.std.proofs.Common.{◌≡◌, ℕ, ◌-◌, ◌≤◌, [], ◌∷◌, ◌++◌, length, get_or, take, Ok, Err, sym, refl, ap, ◌∙◌, arith}
+use Rattle.std.proofs.Common.{◌≡◌, ◌-◌, ◌≤◌, [], ◌∷◌, ◌++◌, length, get_or, take, Ok, Err, sym, refl, ap, ◌∙◌, arith}
 use Rattle.std.proofs.lemmas.Result.{err_from_is_err_and}
 use Rattle.bank.specs.Numbers.{located_of}
 use Rattle.lines.specs.Lines.{Line}
 use Rattle.clauses.specs.Opening.{room_cause, add_cause}
 use Rattle.clauses.specs.Table.{rules_of}
 use Rattle.clauses.proofs.Adds.{has_room, room_left}
-use Rattle.texts.specs.Faults.{Layered}
 use Rattle.texts.specs.Fields.{listed_rest}
-use Rattle.rule_text.specs.RuleLines.{read_literals, read_clause, if_room}
+use Rattle.rule_text.specs.RuleLines.{read_literals, if_room}
 use Rattle.rule_text.specs.View.{with_clauses}
 use Rattle.rule_text.proofs.Openings.{stands_new}
 use Rattle.rule_text.proofs.LineSteps.{listed_broke, rest_broke, rest_went}

@@ -1,10 +1,9 @@
-use Rattle.std.proofs.Common.{◌≡◌, ◌≤◌, sym, refl, ap, ◌∙◌, arith}
+use Rattle.std.proofs.Common.{◌≡◌, sym, refl, ap, ◌∙◌, arith}
 use Rattle.std.proofs.lemmas.Result.{MatchResult-weaker}
 use Rattle.lines.specs.Lines.{Line}
-use Rattle.diagrams.specs.Causes.{room_of}
-use Rattle.rule_text.specs.Kinds.{stage_of, rank_of}
-use Rattle.rule_text.specs.RuleLines.{in_turn, read_kind, read_clause, read_group}
-use Rattle.rule_text.specs.View.{staged, catalogue_of, caused, Even}
+use Rattle.rule_text.specs.Kinds.{stage_of}
+use Rattle.rule_text.specs.RuleLines.{read_clause, read_group}
+use Rattle.rule_text.specs.View.{catalogue_of, caused}
 use Rattle.rule_text.proofs.Lending.{lent_kept}
 use Rattle.rule_text.proofs.KindSteps.{either_way, even_opened, even_block, even_diagrams, even_clauses, even_groups, early_width, early_block, own_clauses, new_clauses, own_groups, new_groups}
 use Rattle.rule_text.proofs.rule_line.read_kind.Goals as goal

@@ -1,9 +1,8 @@
-use Rattle.std.proofs.Common.{◌≡◌, true, false, sym, refl, ap, ◌∙◌}
+use Rattle.std.proofs.Common.{sym, refl, ◌∙◌}
 use Rattle.std.proofs.lemmas.Result.{err_from_is_err_and}
 use Rattle.lines.specs.Lines.{Line}
 use Rattle.diagrams.specs.Causes.{room_of}
-use Rattle.rule_text.specs.Kinds.{stage_of, rank_of}
-use Rattle.rule_text.specs.RuleLines.{in_turn}
+use Rattle.rule_text.specs.Kinds.{rank_of}
 use Rattle.rule_text.specs.View.{catalogue_of}
 use Rattle.rule_text.proofs.Lending.{lent_kept}
 use Rattle.rule_text.proofs.KindSteps.{out_of_turn, turn_taken}

@@ -1,11 +1,11 @@
-use Rattle.std.proofs.Common.{◌≡◌, get_or, take, Ok, Err, sym, refl, ap, ◌∙◌, arith}
+use Rattle.std.proofs.Common.{get_or, Ok, Err, sym, refl, ap, ◌∙◌, arith}
 use Rattle.std.proofs.lemmas.Result.{err_from_is_err_and}
 use Rattle.bank.specs.Numbers.{located_of}
 use Rattle.lines.specs.Lines.{Line}
-use Rattle.rule_text.specs.RuleLines.{read_width, checked_result}
+use Rattle.rule_text.specs.RuleLines.{read_width}
 use Rattle.rule_text.proofs.Lending.{lent_kept}
 use Rattle.rule_text.proofs.LineSteps.{plain_broke, plain_went}
-use Rattle.rule_text.proofs.TableSteps.{wide_catalogue, width_by, width_opened}
+use Rattle.rule_text.proofs.TableSteps.{width_by, width_opened}
 use Rattle.rule_text.proofs.rule_line.read_width.Goals as goal
 
 pub returns-in_err-numbers : goal.returns-in_err-numbers

@@ -1,14 +1,13 @@
-use Rattle.std.proofs.Common.{◌≡◌, ℕ, ◌+◌, ◌<◌, ◌≤◌, [], drop, Ok, Err, sym, refl, ap, ◌∙◌, arith}
+use Rattle.std.proofs.Common.{◌≡◌, ◌+◌, ◌<◌, [], Ok, Err, sym, ap, ◌∙◌, arith}
 use Rattle.lines.specs.Places.{next_start}
 use Rattle.std.proofs.lemmas.Result.{err_from_is_err_and, MatchResult-at_ok, MatchResult-at_err, IfOk-weaker, IfOk-from_err}
-use Rattle.lines.specs.Lines.{lines_of}
 use Rattle.diagrams.specs.Causes.{room_of}
 use Rattle.texts.specs.declared.faults.Text.TheVariants.{Rules}
 use Rattle.texts.specs.Causes.{layered, fault_of, text_fault, faulted}
 use Rattle.texts.proofs.Placing.{placed_ok, placed_err}
 use Rattle.rule_text.specs.Kinds.{stage_of}
 use Rattle.rule_text.specs.RuleLines.{read_rules, read_until, rules_text, rules_until}
-use Rattle.rule_text.specs.View.{catalogue_of, caused, Held}
+use Rattle.rule_text.specs.View.{catalogue_of, caused}
 use Rattle.rule_text.specs.Frames.{framed, finished}
 use Rattle.rule_text.proofs.Lending.{lent_on, lent_still, room_same}
 use Rattle.rule_text.proofs.Reading.{reading_begun, reading_on, stopped_result, stopped_until, held_from, held_kept, rules_end, rules_whole, until_end}

@@ -1,4 +1,4 @@
-use Rattle.std.proofs.Common.{◌≡◌, Ok, sym, ap, ◌∙◌, arith}
+use Rattle.std.proofs.Common.{Ok, sym, ap, ◌∙◌}
 use Rattle.bank.specs.Numbers.{number_of}
 use Rattle.bank.proofs.Told.{asked_dead, asked_live, never_refused}
 use Rattle.session.proofs.check.meets_rule.Goals as goal

@@ -1,4 +1,4 @@
-use Rattle.std.proofs.Common.{◌≡◌, ℕ, true, take, sym, refl, ap, subst, arith}
+use Rattle.std.proofs.Common.{◌≡◌, true, take, sym, refl, subst, arith}
 use Rattle.builds.specs.Values.{bits}
 use Rattle.bank.specs.Banks.{meets_first}
 use Rattle.bank.proofs.Honesty.{meets_more, meets_not}

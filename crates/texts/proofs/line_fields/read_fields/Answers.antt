@@ -1,6 +1,5 @@
-use Rattle.std.proofs.Common.{◌≡◌, ℕ, suc, ◌+◌, ◌-◌, ◌*◌, [], ◌∷◌, ◌++◌, take, drop, Some, sym, refl, ap, ◌∙◌, add-one, arith}
+use Rattle.std.proofs.Common.{◌≡◌, ◌+◌, ◌-◌, ◌*◌, take, Some, sym, refl, ap, ◌∙◌, add-one, arith}
 use Rattle.std.proofs.lemmas.List.{length-set, take_more_set}
-use Rattle.fields.specs.Reading.{field_value}
 use Rattle.texts.specs.Fields.{fields}
 use Rattle.texts.proofs.FieldRows.{field_more, field_none}
 use Rattle.texts.proofs.line_fields.read_fields.Goals as goal

@@ -1,4 +1,4 @@
-use Rattle.std.proofs.Common.{◌≡◌, ◌+◌, ◌-◌, [], ◌∷◌, drop, Some, None, sym, refl, ap, ◌∙◌, arith}
+use Rattle.std.proofs.Common.{◌≡◌, ◌-◌, ◌∷◌, drop, sym, ap, ◌∙◌, arith}
 use Rattle.lines.specs.Lines.{lines_of}
 use Rattle.lines.specs.Places.{line_at, next_start}
 use Rattle.texts.specs.Places.{place_from, line_numbered}

@@ -1,5 +1,4 @@
-use Rattle.std.proofs.Common.{◌≡◌, sym, ◌∙◌, arith, length-set}
-use Rattle.diagrams.specs.Causes.{room_of}
+use Rattle.std.proofs.Common.{sym, arith, length-set}
 use Rattle.diagrams.proofs.Clear.{clear_row}
 use Rattle.diagrams.proofs.Filling.{row_others, lawful_more, reaching_kept}
 use Rattle.diagrams.proofs.table.Diagrams.add_row.Goals as goal

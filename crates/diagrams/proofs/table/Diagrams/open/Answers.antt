@@ -1,4 +1,4 @@
-use Rattle.std.proofs.Common.{◌≡◌, ℕ, ◌+◌, ◌<◌, ◌≤◌, length, sym, refl, ap, ◌∙◌, arith}
+use Rattle.std.proofs.Common.{sym, arith}
 use Rattle.diagrams.proofs.Clear.{clear_open}
 use Rattle.diagrams.proofs.table.Diagrams.open.Goals as goal
 

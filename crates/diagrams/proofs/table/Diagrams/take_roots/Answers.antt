@@ -1,7 +1,5 @@
-use Rattle.std.proofs.Common.{◌≡◌, ℕ, ◌+◌, ◌<◌, List, [], ◌∷◌, ◌++◌, length, get_or, take, set, sym, refl, ap, ◌∙◌, arith}
+use Rattle.std.proofs.Common.{◌≡◌, ℕ, ◌+◌, ◌<◌, List, [], ◌∷◌, ◌++◌, length, get_or, sym, ap, ◌∙◌, arith}
 use Rattle.std.proofs.lemmas.List.{take_more, take_all}
-use Rattle.diagrams.specs.declared.row.Root.{Root}
-use Rattle.diagrams.specs.Filled.{root_nodes}
 use Rattle.diagrams.proofs.Filling.{root_nodes_more}
 use Rattle.diagrams.proofs.table.Diagrams.take_roots.Goals as goal
 

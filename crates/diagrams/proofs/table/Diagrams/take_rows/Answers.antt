@@ -1,4 +1,4 @@
-use Rattle.std.proofs.Common.{◌≡◌, length, take, drop, set, sym, refl, ap, ◌∙◌, arith, length-set}
+use Rattle.std.proofs.Common.{refl, ◌∙◌, arith, length-set}
 use Rattle.diagrams.proofs.Filling.{lawful_copied, copied_more, copied_all}
 use Rattle.diagrams.proofs.table.Diagrams.take_rows.Goals as goal
 

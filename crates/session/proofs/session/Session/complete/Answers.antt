@@ -1,4 +1,4 @@
-use Rattle.std.proofs.Common.{◌≡◌, ℕ, ◌^◌, ◌≤◌, length, take, refl, ◌∙◌, subst, arith}
+use Rattle.std.proofs.Common.{◌≡◌, ◌^◌, ◌≤◌, length, take, refl, ◌∙◌, subst, arith}
 use Rattle.builds.specs.Values.{bits}
 use Rattle.std.proofs.lemmas.Bool.{le-leb, le-ltb}
 use Rattle.search_theory.specs.Trails.{read}

@@ -1,19 +1,17 @@
-use Rattle.std.proofs.Common.{◌≡◌, ℕ, ◌+◌, ◌-◌, ◌^◌, ◌<◌, ◌≤◌, not, eqb, length, set, sym, refl, ap, ◌∙◌, subst, arith, rules}
+use Rattle.std.proofs.Common.{◌≡◌, ◌^◌, ◌<◌, ◌≤◌, not, eqb, length, set, sym, refl, ap, ◌∙◌, subst, arith, rules}
 use mir.Val.{bool_byte}
 use Rattle.std.proofs.lemmas.Bool.{lt-leb, le-ltb}
 use Rattle.builds.specs.Builds.{bit}
-use Rattle.builds.specs.Values.{num}
 use Rattle.search_theory.specs.Trails.{read, start}
 use Rattle.search_theory.specs.Searches.{quest, Search, Builds}
 use Rattle.search_theory.specs.Held.{StoreSound}
-use Rattle.search_theory.specs.Calls.{Does, forced, no_build, spent, only, against}
-use Rattle.search_theory.proofs.Doing.{unpicked_at, picked_at, forced_none, forced_spent, forced_picked, forced_twice}
-use Rattle.search.specs.declared.search.End.TheVariants.{Build as Found, NoBuild as NoneThere, Spent as Out}
+use Rattle.search_theory.specs.Calls.{Does, forced, no_build, spent, only}
+use Rattle.search_theory.proofs.Doing.{unpicked_at, picked_at, forced_none, forced_spent, forced_picked}
 use Rattle.trail.specs.View.{trail_of, store_of, point}
 use Rattle.search.specs.Standing.{end_of}
 use Rattle.session.specs.declared.forcing.Force.TheVariants.{NoBuild, Spent}
 use Rattle.session.specs.View.{state_of, Stands}
-use Rattle.session.specs.Forcing.{force_reply, only_of, second_of}
+use Rattle.session.specs.Forcing.{force_reply}
 use Rattle.session.proofs.Keeping.{kept_closed}
 use Rattle.session.proofs.Questions.{taken_bit, only_reply, forced_both, finds_forced}
 use Rattle.session.proofs.session.Session.forced.Goals as goal

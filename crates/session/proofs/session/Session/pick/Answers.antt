@@ -1,4 +1,4 @@
-use Rattle.std.proofs.Common.{◌≡◌, ℕ, ◌<◌, length, refl, arith, rules}
+use Rattle.std.proofs.Common.{◌≡◌, length, refl, arith, rules}
 use Rattle.search_theory.specs.Calls.{pick, refused, done}
 use Rattle.search_theory.proofs.Doing.{unpicked_at, picked_at, pick_taken, pick_done}
 use Rattle.search_theory.proofs.Law.{does_picks}

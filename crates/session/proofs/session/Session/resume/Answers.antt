@@ -1,4 +1,4 @@
-use Rattle.std.proofs.Common.{◌≡◌, ℕ, ◌^◌, ◌≤◌, true, length, take, refl, ◌∙◌, arith}
+use Rattle.std.proofs.Common.{◌≡◌, ◌^◌, ◌≤◌, true, length, take, refl, ◌∙◌, arith}
 use Rattle.builds.specs.Values.{bits}
 use Rattle.std.proofs.lemmas.Bool.{le-leb, le-ltb}
 use Rattle.search_theory.specs.Trails.{read}

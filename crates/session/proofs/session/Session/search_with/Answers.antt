@@ -1,4 +1,4 @@
-use Rattle.std.proofs.Common.{ℕ, List, refl, subst}
+use Rattle.std.proofs.Common.{refl, subst}
 use Rattle.search_theory.specs.Searches.{quest, Search}
 use Rattle.search_theory.specs.Held.{StoreSound}
 use Rattle.trail.specs.View.{trail_of, store_of, point}

@@ -10,7 +10,6 @@ spans of comments and pages. Functions of src/, strings, inputs and outputs keep
 import glob
 import os
 import re
-import subprocess
 
 WORD = r'[^\s(){}.;,@"«»\[\]]+'
 # a type that would fall together with the variant `NoBuild`, and an alias that stands in for the kit's own name
@@ -53,9 +52,6 @@ def main():
 
     def swap(text):
         return word.sub(lambda m: table.get(m.group(0), m.group(0)), text)
-
-    def spans(text):
-        return re.sub(r"`[^`\n]+`", lambda m: swap(m.group(0)), text)
 
     span_word = re.compile(r"[^\s(){}.;,@\"«»\[\]`]+")
 

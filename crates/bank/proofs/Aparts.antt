@@ -58,7 +58,7 @@ module _ (w : ℕ) (p : Build → Bool) (o : ℕ) (inside : o < w) (free : (b : 
 
     left_by : (m : List ℕ) → answer_of w p v ≡ live m → get_or m o 0 ≡ 2
     left_by m e = elim (answer_cases w p v) [
-      | inl none ↦ absurd (let d = none_dead w p v none in let z : ◌≡◌ {A = ℕ} 0 1 = cc in omega arith)
+      | inl none ↦ (let d = none_dead w p v none in cc)
       | inr f ↦ (let d = some_live w p v f.0 f.1 in
           let q : m ≡ marks w p v = cc in
           let at : (x : Bool) → bit (set f.0 o x) o ≡ x = λ x. get_or-set_same f.0 o x false (omega (arith, f.1.long)) in

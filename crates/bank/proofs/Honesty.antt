@@ -11,10 +11,10 @@ use Rattle.builds.proofs.Tables.{bits_fit}
 -- at a table without 2
 pub dead_fails : (w : ℕ) (p : Build → Bool) (v : List ℕ) (s : Said) → Honest w p v s → s ≡ dead → length v ≡ w → up_to 1 v ≡ true → p (bits v) ≡ false
 dead_fails w p v dead h e l u = h (bits v) (length-map v _ ∙ l) (bits_fit v u)
-dead_fails w p v (live m) h e l u = absurd (let z : ◌≡◌ {A = ℕ} 0 1 = cc in omega arith)
+dead_fails w p v (live m) h e l u = cc
 
 pub live_holds : (w : ℕ) (p : Build → Bool) (v m : List ℕ) (s : Said) → Honest w p v s → s ≡ live m → up_to 1 v ≡ true → p (bits v) ≡ true
-live_holds w p v m dead h e u = absurd (let z : ◌≡◌ {A = ℕ} 0 1 = cc in omega arith)
+live_holds w p v m dead h e u = cc
 live_holds w p v m (live n) h e u = h.whole u
 
 pub meets_more : (n : ℕ) (m : ℕ → Build → Bool) (b : Build) → meets_first n m b ≡ true → m n b ≡ true → meets_first (n + 1) m b ≡ true
@@ -32,5 +32,5 @@ meets_not (suc n) m b k l h =
 
 -- a live answer is as long as the table
 pub live_long : (w : ℕ) (p : Build → Bool) (v m : List ℕ) (s : Said) → Honest w p v s → s ≡ live m → length m ≡ w
-live_long w p v m dead h e = absurd (let z : ◌≡◌ {A = ℕ} 0 1 = cc in omega arith)
+live_long w p v m dead h e = cc
 live_long w p v m (live n) h e = let q : n ≡ m = cc in rw (sym q) h.long

@@ -1,8 +1,9 @@
--- A refusal that may be absent, by its number.
-use Rattle.std.specs.Prelude.{ℕ, Some, None, Option}
+-- What a call refuses, by the number of the cause.
+use Rattle.std.specs.Prelude.{ℕ, Some, None, Option, Ok, Err, Result}
 use Rattle.bank.specs.declared.refusal.Refusal.{Refusal}
 use Rattle.bank.specs.Numbers.{number_of}
 
-abbrev pub numbered_cause : Option Refusal → Option ℕ
-numbered_cause (Some e) = Some (number_of e)
-numbered_cause None = None
+-- the cause for which a call refuses, if it does
+abbrev pub cause_of : {X : Type 0} → Result X Refusal → Option ℕ
+cause_of (Ok x) = None
+cause_of (Err e) = Some (number_of e)

@@ -1,4 +1,4 @@
--- The numbers of the causes of refusal. This is the only place where a cause gets its number.
+-- The numbers of the causes of refusal. In the code each stands at its variant.
 use Rattle.std.specs.Prelude.{ℕ, Ok, Err, Result}
 use Rattle.bank.specs.declared.refusal.Refusal.{Refusal}
 use Rattle.bank.specs.declared.refusal.Refusal.TheVariants.{OptionOutside, PickValue, AlreadyPicked, NotPicked, BudgetTooLarge, NoOpenSearch, NoSuchRule, ShortPlace, BadValue, TooManyOpen}

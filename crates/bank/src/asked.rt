@@ -1,8 +1,8 @@
 // The refusals of `mark`, tested once for every kind of bank.
-ghost use Rattle.std.specs.Prelude.{◌≡◌, ℕ, ◌<◌, ◌≤◌, Bool, true, ◌&&◌, List, length, take, IfNone, nat_le};
+ghost use Rattle.std.specs.Prelude.{◌≡◌, ℕ, ◌<◌, ◌≤◌, Bool, true, ◌&&◌, List, length, take, OnOk, nat_le};
 ghost use Rattle.builds.specs.Values.{up_to};
 ghost use Rattle.bank.specs.Marking.{mark_cause, Ready};
-ghost use Rattle.bank.specs.Asked.{numbered_cause};
+ghost use Rattle.bank.specs.Asked.{cause_of};
 
 use crate::refusal::Refusal;
 
@@ -10,36 +10,29 @@ use crate::refusal::Refusal;
 pub fn values_up_to(values: &[u8], w: usize, most: u8) -> bool
     ensures { result ≡ (nat_le w (length values.now) && up_to most (take w values.now)) }
 {
-    if values.len() < w {
-        return false;
-    }
-    for i in 0..w {
-        if values[i] > most {
-            return false;
-        }
-    }
-    true
+    w <= values.len() && values[..w].iter().all(|value| *value <= most)
 }
 
 // Why a bank of `width` options and `count` rules refuses to mark, if it does.
-pub fn refused(
+#[tactic(auto, unfolding(crate::specs::Marking::mark_cause))]
+pub fn check_asked(
     width: usize,
     count: usize,
     rule: usize,
     values: &[u8],
     room: usize,
-) -> Option<Refusal>
-    ensures value { numbered_cause result ≡ mark_cause width count rule values.now room }
-    ensures ready { IfNone result (Ready width count rule values.now room) }
+) -> Result<(), Refusal>
+    ensures value { cause_of result ≡ mark_cause width count rule values.now room }
+    ensures ready { OnOk result (Ready width count rule values.now room) }
 {
     if rule >= count {
-        return Some(Refusal::NoSuchRule);
+        return Err(Refusal::NoSuchRule);
     }
     if values.len() < width || room < width {
-        return Some(Refusal::ShortPlace);
+        return Err(Refusal::ShortPlace);
     }
     if !values_up_to(values, width, 2) {
-        return Some(Refusal::BadValue);
+        return Err(Refusal::BadValue);
     }
-    None
+    Ok(())
 }

@@ -1,7 +1,8 @@
 -- What `up_to`, `bits` and `fits` say place by place.
-use Rattle.std.proofs.Common.{◌≡◌, ℕ, zero, suc, ◌+◌, ◌<◌, ◌≤◌, min, Bool, true, false, ◌&&◌, leb, List, [], ◌∷◌, length, get_or, take, drop, set, refl, inl, inr, arith}
-use Rattle.std.proofs.lemmas.Bool.{and_parts, and_from, leb-true, le-leb, cases_Bool, cases_lt, both_ways}
-use Rattle.std.proofs.lemmas.List.{get_or-take, length-take, length-map, drop_more, drop_all}
+use Rattle.std.proofs.Common.{◌≡◌, ℕ, zero, suc, ◌<◌, ◌≤◌, Bool, true, false, ◌&&◌, leb, List, [], ◌∷◌, length, get_or, take, set, refl, ap, inl, inr, arith}
+use Rattle.std.proofs.lemmas.Bool.{and_parts, and_from, leb-true, le-leb, cases_Bool, both_ways}
+use Rattle.std.proofs.lemmas.List.{get_or-take, length-take, length-map}
+use Rattle.std.specs.List.{list_all, zip}
 use Rattle.builds.specs.Builds.{Build, bit}
 use Rattle.builds.specs.Values.{up_to, bits, num, allows, fits}
 
@@ -70,16 +71,8 @@ fits_set (v ∷ vs) o y [] e f = refl
 fits_set (v ∷ vs) zero y (b ∷ bs) e f = rw e (and_parts (allows y b) (fits vs bs) f).1
 fits_set (v ∷ vs) (suc o) y (b ∷ bs) e f = let q = and_parts (allows v b) (fits (set vs o y) bs) f in and_from _ _ q.0 (fits_set vs o y bs e q.1)
 
--- what is left of a table and a build, one place on and at the end of either
-pub fits_step : (v : List ℕ) (β : Build) (i : ℕ) → i < length v → i < length β → fits (drop i v) (drop i β) ≡ (allows (get_or v i 0) (bit β i) && fits (drop (i + 1) v) (drop (i + 1) β))
-fits_step v β i l k = rw (drop_more v i 0 l, drop_more β i false k) refl
-
-pub fits_nil : (v : List ℕ) → fits v [] ≡ true
-fits_nil [] = refl
-fits_nil (x ∷ v) = refl
-
-pub fits_end : (v : List ℕ) (β : Build) (i : ℕ) → min (length v) (length β) ≤ i → fits (drop i v) (drop i β) ≡ true
-fits_end v β i l = elim (cases_lt i (length v)) [
-  | inr h ↦ rw (drop_all i v h) refl
-  | inl h ↦ rw (drop_all i β (omega arith)) (fits_nil (drop i v))
-]
+-- a build fits if its values are allowed, place by place
+pub fits_pairs : (v : List ℕ) (β : Build) → list_all (λ (p : ℕ × Bool). allows p.0 p.1) (zip v β) ≡ fits v β
+fits_pairs [] β = refl
+fits_pairs (v ∷ vs) [] = refl
+fits_pairs (v ∷ vs) (b ∷ β) = ap (λ t. allows v b && t) (fits_pairs vs β)

@@ -7,7 +7,7 @@ ghost use Rattle.builds.specs.Builds.{before as before_of};
 ghost use Rattle.builds.specs.Values.{allows as allows_of, fits as fits_of};
 ghost use Rattle.builds.specs.Laws.{SomeBuildLaw, FirstBuildLaw, BeforeLaw, AnswerLaw};
 
-// Whether a value of a table leaves room for a value of a build.
+// Whether a value of a table leaves room for a value of a build. A caller may hand in any number as a value.
 fn allows(value: u8, bit: bool) -> bool
     ensures { result ≡ allows_of value bit }
 {
@@ -24,13 +24,10 @@ pub fn fits(values: &[u8], build: &[bool]) -> bool
     ensures answers { AnswerLaw }
     ensures somes { SomeBuildLaw }
 {
-    let read = values.len().min(build.len());
-    for i in 0..read {
-        if !allows(values[i], build[i]) {
-            return false;
-        }
-    }
-    true
+    values
+        .iter()
+        .zip(build)
+        .all(|(value, bit)| allows(*value, *bit))
 }
 
 // Whether the left build comes first: it has 0 at the lowest option where the two differ.
@@ -39,10 +36,9 @@ pub fn before(left: &[bool], right: &[bool]) -> bool
     ensures order { BeforeLaw }
     ensures firsts { FirstBuildLaw }
 {
-    let shared = left.len().min(right.len());
-    for i in 0..shared {
-        if left[i] != right[i] {
-            return right[i];
+    for (ours, theirs) in left.iter().zip(right) {
+        if ours != theirs {
+            return *theirs;
         }
     }
     false

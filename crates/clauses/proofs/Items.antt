@@ -1,7 +1,8 @@
 -- The first item that passes a test, and what refuses an opening.
-use Rattle.std.proofs.Common.{◌≡◌, ℕ, zero, suc, ◌+◌, ◌<◌, ◌≤◌, Bool, true, false, cond, not, ◌&&◌, ltb, leb, ◌⊎◌, List, [], ◌∷◌, map, length, get_or, drop, Some, None, sym, refl, ap, ◌∙◌, inl, inr, arith, Bor}
-use Rattle.std.proofs.lemmas.Bool.{cond-true, cond-false, cases_Bool, cases_lt, both_ways, or_parts, or_left, ltb-false, not-false, and_from, and_left, and_right, le-leb, lt-leb}
-use Rattle.std.proofs.lemmas.List.{length-map, get_or-map, at_drop_more, at_drop_all}
+use Rattle.std.proofs.Common.{◌≡◌, ℕ, zero, suc, ◌+◌, ◌<◌, ◌≤◌, Bool, true, false, cond, not, ◌&&◌, ltb, leb, ◌⊎◌, List, [], ◌∷◌, map, length, get_or, Option, Some, None, sym, refl, ap, ◌∙◌, inl, inr, arith, Bor}
+use Rattle.std.specs.List.{position_or_len, position, enumerate_from}
+use Rattle.std.proofs.lemmas.Bool.{cond-true, cond-false, cases_Bool, cases_lt, both_ways, or_parts, or_left, ltb-false, not-false, and_from, and_left, and_right, le-leb, lt-leb, lt-ltb, le-ltb}
+use Rattle.std.proofs.lemmas.List.{get_or-map}
 use Rattle.clauses.specs.Literals.{within}
 use Rattle.clauses.specs.Opening.{too_many, first_item, fault, Opens, open_cause}
 
@@ -13,21 +14,43 @@ lists = map (λ x. x.now)
 pub lent_at : (refs : List (Bor (List ℕ))) (i : ℕ) → i < length refs → get_or (lists refs) i [] ≡ (get_or refs i (record { ref_ptr = (0, 0); now = [] })).now
 lent_at refs i l = get_or-map (λ x. x.now) refs i (record { ref_ptr = (0, 0); now = [] }) [] l
 
-module _ (p : ℕ → List ℕ → Bool) (refs : List (Bor (List ℕ))) (i : ℕ) (d : Bor (List ℕ)) where
-  step : i < length refs → first_item p i (drop i (lists refs)) ≡ cond (p i (get_or refs i d).now) (Some i) (first_item p (i + 1) (drop (i + 1) (lists refs)))
-  step l =
-      at_drop_more (first_item p i) (lists refs) i [] (rw length-map l)
-      ∙ ap (λ c. cond (p i c) (Some i) (first_item p (i + 1) (drop (i + 1) (lists refs)))) (get_or-map (λ x. x.now) refs i d [] l)
+-- the item at which a chain over the lent clauses stops: where it stops in the rest, or at the first
+abbrev stop : ℕ → ℕ → ℕ → Option ℕ
+stop n k m = cond (ltb k m) (Some (n + k)) None
 
-  -- a loop over the items: it stops at the first that passes, else goes on
-  pub item_here : i < length refs → p i (get_or refs i d).now ≡ true → first_item p i (drop i (lists refs)) ≡ first_item p 0 (lists refs) → Some i ≡ first_item p 0 (lists refs)
-  item_here l e inv = sym (cond-true _ _ _ e) ∙ sym (step l) ∙ inv
+stop_next : (b : Bool) (n k m : ℕ) → stop n (cond (not b) (1 + k) 0) (suc m) ≡ cond b (Some n) (stop (n + 1) k m)
+stop_next true n k m = rw (lt-ltb 0 (suc m) (omega arith)) (let e : n + 0 ≡ n = omega arith in ap Some e)
+stop_next false n k m = elim (cases_lt k m) [
+  | inl h ↦ rw (lt-ltb k m h, lt-ltb (1 + k) (suc m) (omega arith)) (let e : n + (1 + k) ≡ (n + 1) + k = omega arith in ap Some e)
+  | inr h ↦ rw (le-ltb k m h, le-ltb (1 + k) (suc m) (omega arith)) refl
+]
 
-  pub item_past : i < length refs → p i (get_or refs i d).now ≡ false → first_item p i (drop i (lists refs)) ≡ first_item p 0 (lists refs) → first_item p (i + 1) (drop (i + 1) (lists refs)) ≡ first_item p 0 (lists refs)
-  item_past l e inv = sym (cond-false _ _ _ e) ∙ sym (step l) ∙ inv
+from_none : (k m : ℕ) → stop 0 k m ≡ cond (ltb k m) (Some k) None
+from_none k m = let e : 0 + k ≡ k = omega arith in ap (λ n. cond (ltb k m) (Some n) None) e
 
-pub no_item : (p : ℕ → List ℕ → Bool) (refs : List (Bor (List ℕ))) (i : ℕ) → length refs ≤ i → first_item p i (drop i (lists refs)) ≡ first_item p 0 (lists refs) → None ≡ first_item p 0 (lists refs)
-no_item p refs i l inv = sym (at_drop_all (first_item p i) (lists refs) i (rw length-map l)) ∙ inv
+-- where the test sees the place of a clause
+module _ (p : ℕ → List ℕ → Bool) where
+  abbrev placed : ℕ × Bor (List ℕ) → Bool
+  placed q = p q.0 q.1.now
+
+  stop_placed : (refs : List (Bor (List ℕ))) (n : ℕ) → stop n (position_or_len placed (enumerate_from n refs)) (length (enumerate_from n refs)) ≡ first_item p n (lists refs)
+  stop_placed [] n = refl
+  stop_placed (x ∷ xs) n = stop_next (p n x.now) n _ _ ∙ ap (cond (p n x.now) (Some n)) (stop_placed xs (n + 1))
+
+  pub first_placed : (refs : List (Bor (List ℕ))) → position placed (enumerate_from 0 refs) ≡ first_item p 0 (lists refs)
+  first_placed refs = sym (from_none _ _) ∙ stop_placed refs 0
+
+-- where it sees the clause alone
+module _ (p : List ℕ → Bool) where
+  abbrev passing : Bor (List ℕ) → Bool
+  passing r = p r.now
+
+  stop_passing : (refs : List (Bor (List ℕ))) (n : ℕ) → stop n (position_or_len passing refs) (length refs) ≡ first_item (λ _ c. p c) n (lists refs)
+  stop_passing [] n = refl
+  stop_passing (x ∷ xs) n = stop_next (p x.now) n _ _ ∙ ap (cond (p x.now) (Some n)) (stop_passing xs (n + 1))
+
+  pub first_passing : (refs : List (Bor (List ℕ))) → position passing refs ≡ first_item (λ _ c. p c) 0 (lists refs)
+  first_passing refs = sym (from_none _ _) ∙ stop_passing refs 0
 
 skips : (p : ℕ → List ℕ → Bool) (c : List ℕ) (cs : List (List ℕ)) (i : ℕ) → first_item p i (c ∷ cs) ≡ None → (p i c ≡ false) × (first_item p (i + 1) cs ≡ None)
 skips p c cs i e = elim (cases_Bool (p i c)) [

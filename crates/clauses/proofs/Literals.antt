@@ -1,17 +1,9 @@
 -- Facts about literals and lists of them: `within`, `all_within`, and the tests that join them.
-use Rattle.std.proofs.Common.{◌≡◌, ℕ, zero, suc, ◌/◌, ◌<◌, ◌≤◌, Bool, true, false, ◌||◌, ltb, List, [], ◌∷◌, ◌++◌, length, get_or, refl, arith}
+use Rattle.std.proofs.Common.{◌≡◌, ℕ, zero, suc, ◌/◌, ◌<◌, ◌≤◌, true, ltb, List, [], ◌∷◌, ◌++◌, length, get_or, refl, ◌∙◌, arith}
 use Rattle.std.proofs.lemmas.Bool.{and_parts, and_from, ltb-true, lt-ltb}
+use Rattle.std.proofs.lemmas.List.Folds.{list_all-append}
 use Rattle.clauses.specs.Literals.{within}
 use Rattle.clauses.specs.Table.{all_within}
-
-pub or_none : (x : Bool) → (x || false) ≡ x
-or_none true = refl
-or_none false = refl
-
-pub or_swap : (x y z : Bool) → ((x || y) || z) ≡ (y || (x || z))
-or_swap true true z = refl
-or_swap true false z = refl
-or_swap false y z = refl
 
 pub within_at : (w : ℕ) (ls : List ℕ) → within w ls ≡ true → (j : ℕ) → j < length ls → get_or ls j 0 / 2 < w
 within_at w [] h j k = absurd (omega arith)
@@ -33,10 +25,7 @@ rule_within w (c ∷ cs) h zero = (and_parts (within w c) (all_within w cs) h).0
 rule_within w (c ∷ cs) h (suc r) = rule_within w cs (and_parts (within w c) (all_within w cs) h).1 r
 
 pub all_within_push : (w : ℕ) (rules : List (List ℕ)) (c : List ℕ) → all_within w rules ≡ true → within w c ≡ true → all_within w (rules ++ (c ∷ [])) ≡ true
-all_within_push w [] c h k = and_from (within w c) true k refl
-all_within_push w (d ∷ cs) c h k =
-    let q = and_parts (within w d) (all_within w cs) h in
-    and_from (within w d) (all_within w (cs ++ (c ∷ []))) q.0 (all_within_push w cs c q.1 k)
+all_within_push w rules c h k = list_all-append (within w) rules (c ∷ []) ∙ and_from _ _ h (and_from (within w c) true k refl)
 
 pub all_within_from : (w : ℕ) (rules : List (List ℕ)) → ((r : ℕ) → r < length rules → within w (get_or rules r []) ≡ true) → all_within w rules ≡ true
 all_within_from w [] f = refl

@@ -1,5 +1,6 @@
 -- A scanned clause says all that the builds that fit say.
 use Rattle.std.proofs.Common.{◌≡◌, ℕ, ◌/◌, ◌%◌, ◌<◌, ◌≤◌, Bool, true, false, not, ◌||◌, ltb, ◌≢◌, ◌⊎◌, List, [], ◌∷◌, ◌++◌, length, get_or, take, set, sym, refl, ap, ◌∙◌, inl, inr, arith, length-set}
+use Rattle.std.proofs.Math.Bool.{or-false, or_self}
 use Rattle.std.proofs.lemmas.Bool.{cases_eq, cases_lt, both_ways, and_parts, ltb-true, eq-eqb, ne_eqb, lt-ltb, le-ltb, or_left, or_right}
 use Rattle.std.proofs.lemmas.List.{get_or-set_same, get_or-set_other, get_or_default, get_or-take, append-nil, append_assoc, length-take-le}
 use Rattle.builds.specs.Builds.{Build, bit, same}
@@ -13,16 +14,11 @@ use Rattle.clauses.specs.declared.left.Left.{Left}
 use Rattle.clauses.specs.declared.left.Left.TheVariants.{Nothing, One, Free}
 use Rattle.clauses.specs.Clause.{wants, literal_meets, clause_meets}
 use Rattle.clauses.specs.Literals.{numbers, within}
-use Rattle.clauses.proofs.Literals.{or_none}
 use Rattle.clauses.specs.Scan.{joins, stepped, scanned, clause_says}
-
-or_same : (x : Bool) → (x || x) ≡ x
-or_same true = refl
-or_same false = refl
 
 -- one more literal at the end of a clause
 pub meets_push : (ls : List ℕ) (l : ℕ) (b : Build) → clause_meets (ls ++ (l ∷ [])) b ≡ (clause_meets ls b || literal_meets l b)
-meets_push [] l b = or_none (literal_meets l b)
+meets_push [] l b = or-false (literal_meets l b)
 meets_push (k ∷ ls) l b = ap (λ t. literal_meets k b || t) (meets_push ls l b) ∙ sym (assoc (literal_meets k b) (clause_meets ls b) (literal_meets l b))
   where
     assoc : (x y z : Bool) → ((x || y) || z) ≡ (x || (y || z))
@@ -150,7 +146,7 @@ module _ (w : ℕ) (v : List ℕ) (sized : length v ≡ w) (small : up_to 2 v �
   open_told : (ls : List ℕ) (l : Literal) (s : Left) → Open (l.number / 2) → Told ls s → Told (ls ++ (l.number ∷ [])) (joins s l)
   open_told ls l Nothing o t = (o, λ b n f. meets_push ls l.number b ∙ ap (λ z. z || literal_meets l.number b) (t b n f))
   open_told ls l (One k) o t = elim (cases_eq k.number l.number) [
-    | inl e ↦ rw (eq-eqb k.number l.number e) (t.0, λ b n f. meets_push ls l.number b ∙ ap (λ z. z || literal_meets l.number b) (t.1 b n f) ∙ ap (λ z. literal_meets k.number b || literal_meets z b) (sym e) ∙ or_same (literal_meets k.number b))
+    | inl e ↦ rw (eq-eqb k.number l.number e) (t.0, λ b n f. meets_push ls l.number b ∙ ap (λ z. z || literal_meets l.number b) (t.1 b n f) ∙ ap (λ z. literal_meets k.number b || literal_meets z b) (sym e) ∙ or_self (literal_meets k.number b))
     | inr e ↦ rw (ne_eqb k.number l.number e) (two_free (ls ++ (l.number ∷ [])) k.number l.number t.0 o e (λ b f. meets_push ls l.number b ∙ ap (λ z. z || literal_meets l.number b) (t.1 b f.long f.fit)))
   ]
   open_told ls l Free o t =
@@ -168,7 +164,7 @@ module _ (w : ℕ) (v : List ℕ) (sized : length v ≡ w) (small : up_to 2 v �
             (same_is (wants n) _ (fits_at v b (n / 2) (wants n) f.fit (omega arith) (omega (arith, f.long)) (e ∙ sym (num_wants n))))))
         | inr e ↦ elim (cases_lt y 2) [
           | inl k ↦ rw (ne_eqb y (n % 2) e, lt-ltb y 2 k) (told_same ls (ls ++ (n ∷ [])) s
-              (λ b f. meets_push ls n b ∙ ap (λ z. clause_meets ls b || z) (same_not (wants n) _ (fits_at v b (n / 2) (not (wants n)) f.fit (omega arith) (omega (arith, f.long)) (other n y e k))) ∙ or_none (clause_meets ls b)) t)
+              (λ b f. meets_push ls n b ∙ ap (λ z. clause_meets ls b || z) (same_not (wants n) _ (fits_at v b (n / 2) (not (wants n)) f.fit (omega arith) (omega (arith, f.long)) (other n y e k))) ∙ or-false (clause_meets ls b)) t)
           | inr k ↦ rw (ne_eqb y (n % 2) e, le-ltb y 2 k) (open_told ls l s (h, omega arith) t)
         ]
       ])

@@ -19,8 +19,8 @@ clauses_bank w rules = exact_bank w (length rules) (λ r. clause_meets (slice_in
 abbrev pub clauses_reading : List (List ℕ) → ℕ → ℕ → Bool
 clauses_reading rules r o = names (slice_index_or rules r []) o
 
-unfoldable pub clauses_duties : (w n : ℕ) (rules : List (List ℕ)) → 1 ≤ w → w ≤ 128 → n ≤ 512 → length rules ≡ n → Duties (clauses_bank w rules)
-clauses_duties w n rules a b c e = exact_duties w (length rules) (λ r. clause_meets (slice_index_or rules r [])) a b (omega arith)
+unfoldable pub clauses_duties : (w : ℕ) (rules : List (List ℕ)) → 1 ≤ w → w ≤ 128 → length rules ≤ 512 → Duties (clauses_bank w rules)
+clauses_duties w rules a b c = exact_duties w (length rules) (λ r. clause_meets (slice_index_or rules r [])) a b (omega arith)
 
 -- builds that differ only at an option that no literal is of meet a clause alike
 pub clause_free : (ls : List ℕ) (o : ℕ) → names ls o ≡ false → (β : Build) (x : Bool) → clause_meets ls (slice_set β o x) ≡ clause_meets ls β

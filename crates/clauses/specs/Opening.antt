@@ -1,7 +1,6 @@
 -- When a table of clauses is refused, and at which of them.
 use Rattle.std.specs.Prelude.{◌≡◌, ℕ, ◌+◌, ◌<◌, ◌≤◌, Bool, true, cond, not, ◌&&◌, ◌||◌, List, [], ◌∷◌, length, Some, None, Ok, Err, Option, Result, nat_le, nat_lt, slice_index_or}
-use Rattle.bank.specs.Numbers.{Located, located_of}
-use Rattle.bank.specs.declared.table_fault.TableFault.{TableFault}
+use Rattle.bank.specs.Numbers.{Located}
 use Rattle.clauses.specs.Literals.{within}
 
 -- no place is left for item i, or no place in it for k literals
@@ -54,8 +53,3 @@ opened None = Ok tt
 abbrev pub or_kept : {X : Type 0} → Option Located → X → X → X
 or_kept (Some f) old new = old
 or_kept None old new = new
-
--- a fault that may be absent, by its number and item
-abbrev pub located_cause : Option TableFault → Option Located
-located_cause (Some f) = Some (located_of f)
-located_cause None = None

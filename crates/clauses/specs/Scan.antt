@@ -1,5 +1,6 @@
 -- How a clause is scanned under a values table, and what is said of it then.
-use Rattle.std.specs.Prelude.{ℕ, ◌/◌, ◌%◌, cond, List, [], ◌∷◌, ◌==◌, nat_lt, slice_index_or, slice_set}
+use Rattle.std.specs.Prelude.{ℕ, ◌/◌, ◌%◌, cond, List, ◌==◌, nat_lt, slice_index_or, slice_set}
+use Rattle.std.specs.List.{fold}
 use Rattle.builds.specs.Answers.{Said, dead, live}
 use Rattle.clauses.specs.declared.literal.Literal.{Literal}
 use Rattle.clauses.specs.declared.left.Left.{Left}
@@ -17,8 +18,7 @@ stepped s l y = cond (y == l.number % 2) Free (cond (nat_lt y 2) s (joins s l))
 
 -- what the values v leave of a clause, s being left of its literals so far; an option past the table is open
 abbrev pub scanned : List ℕ → Left → List Literal → Left
-scanned v s [] = s
-scanned v s (l ∷ ls) = scanned v (stepped s l (slice_index_or v (l.number / 2) 2)) ls
+scanned v = fold (λ s l. stepped s l (slice_index_or v (l.number / 2) 2))
 
 -- what a clause says of which that is left: one literal is marked, and else only what has a value already
 abbrev pub clause_says : List ℕ → Left → Said

@@ -1,46 +1,68 @@
-// One clause of the table: up to 32 literals in a place of fixed size, so that no call can fail for want of memory.
-ghost use Rattle.std.specs.Prelude.{◌≡◌, ◌≤◌, true, length, take};
+// A clause: up to N literals in a place of fixed size, so that no call can fail for want of memory.
+ghost use Rattle.std.specs.Prelude.{◌≡◌, ◌<◌, ◌≤◌, true, [], ◌∷◌, ◌++◌, length};
 ghost use Rattle.clauses.specs.Literals.{numbers, within};
 
 use crate::literal::Literal;
+use std::marker::Model;
 
 // The first `len` of the literals are the clause's.
-#[derive(Clone, Copy, Drop)]
-pub struct Clause {
+// A byte beside the array, since memory is fixed: an ArrayVec's length takes eight, and a quote's 700 clauses 5 KiB more.
+#[derive(Default, Drop)]
+pub struct Clause<const N: usize> {
     len: u8,
-    literals: [Literal; 32],
-    ghost short: { len ≤ 32 },
+    literals: [Literal; N],
 }
 
-impl Clause {
+// Contracts see a clause as the list of its literals.
+impl<const N: usize> Model for Clause<N> {
+    ghost use Rattle.std.specs.Prelude.{◌≡◌, ◌≤◌, List, length, take};
+    ghost use Rattle.clauses.specs.declared.literal.Literal.{Literal};
+
+    ghost Value = { List Literal };
+
+    ghost view = { λ c. take c.len c.literals };
+
+    ghost invariant = { λ c. (c.len ≤ N) × (length c.literals ≡ N) };
+}
+
+impl<const N: usize> Clause<N> {
     // The clause without a literal.
-    pub fn empty() -> Clause {
-        Clause {
-            len: 0,
-            literals: [Literal::new(0); 32],
-        }
+    pub fn empty() -> Clause<N>
+        ensures { result ≡ [] }
+    {
+        Clause::default()
     }
 
     // The clause of these literals. Each is a byte, since no table has an option above 127.
-    pub fn of(literals: &[u32]) -> Clause
-        requires short { length literals.now ≤ 32 }
+    pub(crate) fn of(literals: &[u32]) -> Clause<N>
+        requires short { length literals.now ≤ N }
+        requires byte { N < 256 }
         requires inside { within 128 literals.now ≡ true }
-        ensures { numbers (take result.len result.literals) ≡ literals.now }
+        ensures { numbers result ≡ literals.now }
     {
-        let mut row = [Literal::new(0); 32];
-        for (i, literal) in literals.iter().enumerate() {
-            row[i] = Literal::new(*literal as u8);
+        let mut clause = Clause::empty();
+        for literal in literals {
+            clause.push(Literal::new(*literal as u8));
         }
-        Clause {
-            len: literals.len() as u8,
-            literals: row,
+        clause
+    }
+
+    // One literal more, if there is room for it. A length of one byte ends at 255.
+    pub fn push(&mut self, literal: Literal)
+        ensures full { N ≤ length self.old → self.new ≡ self.old }
+        ensures more { length self.old < N → length self.old < 255 → self.new ≡ self.old ++ literal ∷ [] }
+    {
+        let at = self.len as usize;
+        if at < N && at < 255 {
+            self.literals[at] = literal;
+            self.len += 1;
         }
     }
 
     // The clause's literals.
     pub fn literals(&self) -> &[Literal]
-        ensures { result.now ≡ take self.now.len self.now.literals }
+        ensures { result.now ≡ self.now }
     {
-        &self.literals[0..self.len as usize]
+        &self.literals[..self.len as usize]
     }
 }

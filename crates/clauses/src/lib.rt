@@ -1,7 +1,7 @@
 // The clause kind of rule: a table of clauses behind the rule bank's interface, and the scan that serves learnt clauses too.
 #![tactic(auto)]
 
-mod clause;
+pub mod clause;
 pub mod left;
 mod limits;
 pub mod literal;

@@ -1,7 +1,8 @@
 // The limits of a clause table, and the first clause that breaks one.
-ghost use Rattle.std.specs.Prelude.{◌≡◌, not, map, length, IfNone};
+ghost use Rattle.std.specs.Prelude.{◌≡◌, not, map, length, OnOk};
+ghost use Rattle.bank.specs.Numbers.{located};
 ghost use Rattle.clauses.specs.Literals.{within as within_of};
-ghost use Rattle.clauses.specs.Opening.{too_many as too_many_of, first_item, Opens, located_cause, open_cause};
+ghost use Rattle.clauses.specs.Opening.{too_many as too_many_of, first_item, Opens, open_cause, opened};
 
 use bank::table_fault::{TableCause, TableFault};
 
@@ -16,60 +17,50 @@ pub fn too_many(item: usize, literals: usize) -> bool
 pub fn within(literals: &[u32], width: usize) -> bool
     ensures { result ≡ within_of width literals.now }
 {
-    for literal in literals {
-        if (*literal / 2) as usize >= width {
-            return false;
-        }
-    }
-    true
+    literals
+        .iter()
+        .all(|literal| ((*literal / 2) as usize) < width)
 }
 
 // The first item that has no place.
 fn first_too_many(clauses: &[&[u32]]) -> Option<usize>
     ensures { result ≡ first_item (λ i c. too_many_of i (length c)) 0 (map (λ x. x.now) clauses.now) }
 {
-    for (i, clause) in clauses.iter().enumerate() {
-        if too_many(i, clause.len()) {
-            return Some(i);
-        }
-    }
-    None
+    clauses
+        .iter()
+        .enumerate()
+        .position(|(i, literals)| too_many(i, literals.len()))
 }
 
 // The first item with a literal of an option at or above the width.
 fn first_outside(clauses: &[&[u32]], width: usize) -> Option<usize>
     ensures { result ≡ first_item (λ _ c. not (within_of width c)) 0 (map (λ x. x.now) clauses.now) }
 {
-    for (i, clause) in clauses.iter().enumerate() {
-        if !within(clause, width) {
-            return Some(i);
-        }
-    }
-    None
+    clauses.iter().position(|literals| !within(literals, width))
 }
 
-// Why these clauses over `width` options are refused, if they are.
-pub fn refused(width: usize, clauses: &[&[u32]]) -> Option<TableFault>
-    ensures value { located_cause result ≡ open_cause width (map (λ x. x.now) clauses.now) }
-    ensures opens { IfNone result (Opens width (map (λ x. x.now) clauses.now)) }
+// Whether these clauses over `width` options may be opened, and if not, why.
+pub fn check_clauses(width: usize, clauses: &[&[u32]]) -> Result<(), TableFault>
+    ensures value { located result ≡ opened (open_cause width (map (λ x. x.now) clauses.now)) }
+    ensures opens { OnOk result (Opens width (map (λ x. x.now) clauses.now)) }
 {
     if width == 0 || width > 128 {
-        return Some(TableFault {
+        return Err(TableFault {
             cause: TableCause::BadWidth,
             item: 0,
         });
     }
     if let Some(item) = first_too_many(clauses) {
-        return Some(TableFault {
+        return Err(TableFault {
             cause: TableCause::TooMany,
             item,
         });
     }
     if let Some(item) = first_outside(clauses, width) {
-        return Some(TableFault {
+        return Err(TableFault {
             cause: TableCause::OptionTooLarge,
             item,
         });
     }
-    None
+    Ok(())
 }

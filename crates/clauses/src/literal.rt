@@ -1,14 +1,16 @@
 // A literal: an option and the value that is wanted of it, in one number, as dealers write it.
 ghost use Rattle.std.specs.Prelude.{◌≡◌, ◌/◌, ◌%◌};
 
-// The number is 2 × option + wanted value.
-#[derive(Clone, Copy, PartialEq, Eq, Debug, Drop)]
+use option_set::OfOption;
+
+// The number is 2 × option + wanted value: one byte and not two fields, since a quote has 40,960 places for literals in its fixed memory.
+#[derive(Clone, Copy, PartialEq, Eq, Debug, Default, Drop)]
 pub struct Literal {
     number: u8,
 }
 
 impl Literal {
-    // The literal of a number.
+    // The literal of a number. By this name and no `From`, which would not say that a byte is read as 2 × option + wanted value.
     pub fn new(number: u8) -> Literal
         ensures { result.number ≡ number }
     {
@@ -34,5 +36,13 @@ impl Literal {
         ensures { result ≡ self.number % 2 }
     {
         self.number % 2
+    }
+}
+
+impl OfOption for Literal {
+    ghost option = { λ literal. literal.number / 2 };
+
+    fn of_option(&self) -> usize {
+        self.option()
     }
 }

@@ -8,7 +8,7 @@ ghost use Rattle.clauses.specs.Meaning.{clauses_bank, clauses_duties, clauses_re
 use crate::literal::Literal;
 use crate::mark::mark_clause;
 use crate::table::Clauses;
-use bank::asked::refused;
+use bank::asked::check_asked;
 use bank::refusal::{Answer, Refusal};
 use bank::rule_bank::RuleBank;
 use option_set::OptionSet;
@@ -17,46 +17,36 @@ use option_set::OptionSet;
 fn options_of(literals: &[Literal]) -> OptionSet
     ensures { (o : ℕ) → o < 128 → member result.members o ≡ names (numbers literals.now) o }
 {
-    let mut options = OptionSet::empty();
-    for literal in literals {
-        options = options.insert(literal.option());
-    }
-    options
+    OptionSet::of(literals)
 }
 
 impl RuleBank for Clauses {
-    ghost meaning = { λ s. clauses_bank s.width (rules_of s.count s.clauses) };
+    ghost meaning = { λ s. clauses_bank s.width (rules_of s.clauses) };
 
-    ghost duties = { λ s. clauses_duties s.width s.count (rules_of s.count s.clauses) s.sized.0 s.sized.1 s.sized.2 s.counted };
+    ghost duties = { λ s. clauses_duties s.width (rules_of s.clauses) s.sized.0 s.sized.1 s.sized.2 };
 
-    ghost reading = { λ s. clauses_reading (rules_of s.count s.clauses) };
+    ghost reading = { λ s. clauses_reading (rules_of s.clauses) };
 
-    ghost local = { λ s. clauses_local s.width (rules_of s.count s.clauses) };
+    ghost local = { λ s. clauses_local s.width (rules_of s.clauses) };
 
     fn width(&self) -> usize {
         self.width
     }
 
     fn count(&self) -> usize {
-        self.count
+        self.clauses.len()
     }
 
     fn reads(&self, rule: usize) -> OptionSet {
-        if rule >= self.count {
-            return OptionSet::empty();
+        match self.clauses.get(rule) {
+            Some(clause) => options_of(clause.literals()),
+            None => OptionSet::empty(),
         }
-        options_of(self.clauses[rule].literals())
     }
 
     fn mark(&self, rule: usize, values: &[u8], marks: &mut [u8]) -> Result<Answer, Refusal> {
         let w = self.width;
-        if let Some(cause) = refused(w, self.count, rule, values, marks.len()) {
-            return Err(cause);
-        }
-        Ok(mark_clause(
-            self.clauses[rule].literals(),
-            &values[0..w],
-            &mut marks[0..w],
-        ))
+        check_asked(w, self.clauses.len(), rule, values, marks.len())?;
+        Ok(mark_clause(self.clauses[rule].literals(), &values[..w], &mut marks[..w]))
     }
 }

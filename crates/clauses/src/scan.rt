@@ -21,14 +21,8 @@ fn step(found: Left, literal: Literal, value: u8) -> Left
     }
     match found {
         Left::Nothing => Left::One(literal),
-        Left::One(other) => {
-            if other.number() == literal.number() {
-                found
-            } else {
-                Left::Free
-            }
-        }
-        Left::Free => Left::Free,
+        Left::One(other) if other == literal => found,
+        Left::One(_) | Left::Free => Left::Free,
     }
 }
 
@@ -36,11 +30,7 @@ fn step(found: Left, literal: Literal, value: u8) -> Left
 fn value_at(values: &[u8], option: usize) -> u8
     ensures { result ≡ slice_index_or values.now option 2 }
 {
-    if option < values.len() {
-        values[option]
-    } else {
-        2
-    }
+    values.get(option).copied().unwrap_or(2)
 }
 
 // What the values leave of the clause.
@@ -48,9 +38,7 @@ pub fn scan(literals: &[Literal], values: &[u8]) -> Left
     ensures value { result ≡ scanned values.now Left.Nothing literals.now }
     ensures says { (w : ℕ) → within w (numbers literals.now) ≡ true → w ≤ length values.now → up_to 2 (take w values.now) ≡ true → answer_of w (clause_meets (numbers literals.now)) (take w values.now) ≡ clause_says (take w values.now) result }
 {
-    let mut found = Left::Nothing;
-    for literal in literals {
-        found = step(found, *literal, value_at(values, literal.option()));
-    }
-    found
+    literals.iter().fold(Left::Nothing, |found, literal| {
+        step(found, *literal, value_at(values, literal.option()))
+    })
 }

@@ -3,14 +3,13 @@ ghost use Rattle.std.specs.Prelude.{◌≡◌, ◌≤◌, true, length};
 ghost use Rattle.clauses.specs.Table.{rules_of, all_within};
 
 use crate::clause::Clause;
+use arrayvec::ArrayVec;
 
-// The first `count` of the clauses are the bank's rules, over `width` options.
+// The clauses are the bank's rules, over `width` options.
 #[derive(Drop)]
 pub struct Clauses {
     pub(crate) width: usize,
-    pub(crate) count: usize,
-    pub(crate) clauses: [Clause; 512],
-    ghost sized: { (1 ≤ width) × (width ≤ 128) × (count ≤ 512) },
-    ghost counted: { length (rules_of count clauses) ≡ count },
-    ghost inside: { all_within width (rules_of count clauses) ≡ true },
+    pub(crate) clauses: ArrayVec<Clause<32>, 512>,
+    ghost sized: { (1 ≤ width) × (width ≤ 128) × (length (rules_of clauses) ≤ 512) },
+    ghost inside: { all_within width (rules_of clauses) ≡ true },
 }

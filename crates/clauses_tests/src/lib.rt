@@ -10,10 +10,7 @@ mod tests {
 
     // Whether an opening was refused with this cause at this item.
     fn refuses(opened: Result<(), TableFault>, number: u8, item: usize) -> bool {
-        match opened {
-            Ok(_) => false,
-            Err(fault) => fault.cause.number() == number && fault.item == item,
-        }
+        opened.is_err_and(|fault| fault.cause.number() == number && fault.item == item)
     }
 
     #[test]

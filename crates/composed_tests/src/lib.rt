@@ -19,6 +19,7 @@ mod tests {
     use std::test::Fail;
 
     // The example table: option 0 and option 1 taken and option 2 left out, or option 2 taken and not both of the others.
+    // The other tests have it once more, since they share no crate for four lines of data.
     fn rows() -> [Row; 4] {
         [
             Row {
@@ -83,7 +84,7 @@ mod tests {
         let mut session = Session::new(b);
         let mut place = [9u8; 6];
         match session.complete(1000, &mut place) {
-            Ok(completion) => assert!(rt; completion.verdict == Verdict::Build),
+            Ok(completion) => assert!(rt; completion.answer == Verdict::Build),
             Err(_) => return Err(Fail::new("refused")),
         }
         assert_eq!(rt; place, [1, 0, 0, 0, 1, 9]);

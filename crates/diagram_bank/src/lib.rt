@@ -2,6 +2,7 @@
 #![tactic(auto)]
 
 mod descent;
+mod found;
 mod marking;
 pub mod rules;
 mod value_weights;

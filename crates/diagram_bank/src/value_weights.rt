@@ -3,21 +3,14 @@ ghost use Rattle.std.specs.Prelude.{◌≡◌, ℕ, ◌<◌, ◌≤◌, length, 
 
 use sweeps::semiring::Semiring;
 
-// Writes the weights of one value for the first `width` options; `barred` is the table's number that rules the value out.
-pub(crate) fn value_weights<S: Semiring + Copy>(
-    values: &[u8],
-    width: usize,
-    barred: u8,
-    weights: &mut [S],
-)
-    requires { (width ≤ length values.now) × (width ≤ length weights.old) }
-    ensures { (o : ℕ) (d : S) → o < width → slice_index_or weights.new o d ≡ (if nat_eq (slice_index values.now o) barred then S.zero else S.one) }
+// Writes the weights of both values for as many options as the table has: 1 rules out 0, and 0 rules out 1.
+pub(crate) fn value_weights<S: Semiring + Copy>(values: &[u8], low: &mut [S], high: &mut [S])
+    requires { (length values.now ≤ length low.old) × (length values.now ≤ length high.old) }
+    ensures lows { (o : ℕ) (d : S) → o < length values.now → slice_index_or low.new o d ≡ (if nat_eq (slice_index values.now o) 1 then S.zero else S.one) }
+    ensures highs { (o : ℕ) (d : S) → o < length values.now → slice_index_or high.new o d ≡ (if nat_eq (slice_index values.now o) 0 then S.zero else S.one) }
 {
-    for o in 0..width {
-        if values[o] == barred {
-            weights[o] = S::zero();
-        } else {
-            weights[o] = S::one();
-        }
+    for (o, value) in values.iter().enumerate() {
+        low[o] = if *value == 1 { S::zero() } else { S::one() };
+        high[o] = if *value == 0 { S::zero() } else { S::one() };
     }
 }

@@ -9,6 +9,7 @@ ghost use Rattle.diagram_bank.specs.Walks.{meets_reply};
 
 use bank::refusal::Refusal;
 use diagrams::table::Diagrams;
+use sweeps::root::root_of;
 
 // Whether the walk from a node of the table ends at 1.
 fn ends_at_one(bank: &Diagrams<'_>, root: usize, build: &[bool]) -> bool
@@ -16,6 +17,7 @@ fn ends_at_one(bank: &Diagrams<'_>, root: usize, build: &[bool]) -> bool
     ensures { result ≡ meets_root bank.now.rows.now root build.now }
 {
     let mut node = root;
+    // a walk along arrows, where nodes 0 and 1 are the ends
     while node >= 2 {
         let row = bank.rows[node - 2];
         node = if build[row.option as usize] {
@@ -29,14 +31,12 @@ fn ends_at_one(bank: &Diagrams<'_>, root: usize, build: &[bool]) -> bool
 
 // Whether a build meets a rule. Places from the width on are not read.
 pub fn meets(bank: &Diagrams<'_>, rule: usize, build: &[bool]) -> Result<bool, Refusal>
-    ensures answer { numbered result ≡ meets_reply bank.now.width bank.now.root_count rule (length build.now) (rule_meets bank.now.rows.now bank.now.roots rule (take bank.now.width build.now)) }
+    ensures answer { numbered result ≡ meets_reply bank.now.width (length bank.now.roots.items) rule (length build.now) (rule_meets bank.now.rows.now bank.now.roots.items rule (take bank.now.width build.now)) }
     ensures paths { PathLaw }
 {
-    if rule >= bank.root_count {
-        return Err(Refusal::NoSuchRule);
-    }
+    let root = root_of(bank, rule)?;
     if build.len() < bank.width {
         return Err(Refusal::ShortPlace);
     }
-    Ok(ends_at_one(bank, bank.roots[rule].node as usize, build))
+    Ok(ends_at_one(bank, root, build))
 }

@@ -12,12 +12,13 @@ pub fn row(option: u32, low: u32, high: u32) -> Row {
 }
 
 // Four rows over three options. Node 2 wants option 2 and node 3 the opposite; node 4 lets option 1 choose between them,
-// and node 5 lets option 0 choose between nodes 2 and 4.
+// and node 5 lets option 0 choose between nodes 2 and 4. Other tests have them once more, since they share no crate for this.
 pub fn four_rows() -> [Row; 4] {
     [row(2, 0, 1), row(2, 1, 0), row(1, 2, 3), row(0, 2, 4)]
 }
 
-// What a call answers, in numbers: its value or 0, and the number of its refusal or 0.
+// What a call answers, in numbers: its value or 0, and the number of its refusal or 0. Numbers and no enums here and below, since
+// what a test expects is what dealers know.
 pub fn told(res: Result<u64, Refusal>) -> (u64, u8) {
     match res {
         Ok(value) => (value, 0),

@@ -5,6 +5,7 @@ use std::test::Fail;
 use sweeps::column::column;
 use sweeps::semiring::Semiring;
 use sweeps::sweep::sweep;
+use sweeps::weights::Weights;
 
 // A sweep over the four rows from node 5, and the places after it.
 fn swept(rule: usize, low: &[u64], high: &[u64]) -> ((u64, u8), [u64; 7]) {
@@ -14,7 +15,7 @@ fn swept(rule: usize, low: &[u64], high: &[u64]) -> ((u64, u8), [u64; 7]) {
     if table.open(3, &four_rows(), &[5]).is_err() {
         return ((0, 255), places);
     }
-    let end = told(sweep(&table, rule, low, high, &mut places));
+    let end = told(sweep(&table, rule, &Weights { low, high }, &mut places));
     (end, places)
 }
 
@@ -38,12 +39,11 @@ fn says_which_nodes_are_live(rt: HostRuntime) -> Result<(), Fail> {
     let mut table = Diagrams::empty(&mut memory);
     table.open(3, &four_rows(), &[5])?;
     let mut places = [false; 6];
-    column(
-        &table,
-        &[true, true, true],
-        &[true, true, false],
-        &mut places,
-    )?;
+    let weights = Weights {
+        low: &[true, true, true],
+        high: &[true, true, false],
+    };
+    column(&table, &weights, &mut places)?;
     assert!(rt; places == [false, true, false, true, true, true]);
     Ok(())
 }
@@ -54,15 +54,11 @@ fn refuses_a_short_column(rt: HostRuntime) -> Result<(), Fail> {
     let mut table = Diagrams::empty(&mut memory);
     table.open(3, &four_rows(), &[5])?;
     let mut places = [true; 5];
-    assert!(rt;
-        column(
-            &table,
-            &[true, true, true],
-            &[true, true, false],
-            &mut places,
-        )
-        .is_err()
-    );
+    let weights = Weights {
+        low: &[true, true, true],
+        high: &[true, true, false],
+    };
+    assert!(rt; column(&table, &weights, &mut places).is_err());
     assert!(rt; places == [true; 5]);
     Ok(())
 }

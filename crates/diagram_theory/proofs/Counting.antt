@@ -1,7 +1,10 @@
 -- A sweep over the weights that a values table gives is the sum over the fitting builds: over numbers, how many there are.
-use Rattle.std.proofs.Common.{◌≡◌, ℕ, zero, suc, ◌+◌, ◌-◌, ◌%◌, ◌^◌, ◌<◌, ◌≤◌, Bool, true, false, cond, ◌&&◌, eqb, List, [], ◌∷◌, length, get_or, take, drop, sym, refl, ap, ◌∙◌, subst, mod-eq_of_lt, pow-suc, add-one, arith}
+use Rattle.std.proofs.Common.{◌≡◌, ℕ, zero, suc, ◌+◌, ◌-◌, ◌%◌, ◌^◌, ◌<◌, ◌≤◌, Bool, true, false, cond, ◌&&◌, eqb, leb, List, [], ◌∷◌, length, get_or, drop, sym, refl, ap, ◌∙◌, subst, mod-eq_of_lt, pow-suc, arith}
 use native.Mathlib.Nat.{mod-add-mod, add-mod-mod, pow-zero, pow-le-pow_right}
+use Rattle.std.specs.List.{count_by}
+use Rattle.std.proofs.lemmas.Bool.{le-leb}
 use Rattle.std.proofs.lemmas.List.{get_or-drop, length-drop}
+use Rattle.std.proofs.lemmas.List.Recursion.{is_count_by}
 use Rattle.builds.specs.Builds.{Build}
 use Rattle.builds.specs.Values.{fits, allows}
 use Rattle.diagrams.specs.declared.row.Row.{Row}
@@ -125,34 +128,14 @@ opens_drop (suc u) (zero ∷ v) = opens_drop u v
 opens_drop (suc u) (suc zero ∷ v) = opens_drop u v
 opens_drop (suc u) (suc (suc n) ∷ v) = let h = opens_drop u v in omega arith
 
--- one option more
-opens_take : (v : List ℕ) (i : ℕ) → i < length v → opens (take (i + 1) v) ≡ opens (take i v) + opens (get_or v i 0 ∷ [])
-opens_take v i h = ap (λ n. opens (take n v)) (add-one i) ∙ go v i h
+-- the options from 2 on, counted
+pub opens_counted : (v : List ℕ) → opens v ≡ count_by (λ x. leb 2 x) v
+opens_counted v = is_count_by opens (λ x. leb 2 x) refl step v
   where
-    go : (v : List ℕ) (i : ℕ) → i < length v → opens (take (suc i) v) ≡ opens (take i v) + opens (get_or v i 0 ∷ [])
-    go [] i h = absurd (omega arith)
-    go (zero ∷ v) zero h = refl
-    go (suc zero ∷ v) zero h = refl
-    go (suc (suc n) ∷ v) zero h = refl
-    go (zero ∷ v) (suc i) h = go v i (omega arith)
-    go (suc zero ∷ v) (suc i) h = go v i (omega arith)
-    go (suc (suc n) ∷ v) (suc i) h = let e = go v i (omega arith) in omega arith
-
-pub opens_open : (v : List ℕ) (i : ℕ) → i < length v → 2 ≤ get_or v i 0 → opens (take (i + 1) v) ≡ opens (take i v) + 1
-opens_open v i h k = opens_take v i h ∙ ap (λ n. opens (take i v) + n) (one (get_or v i 0) k)
-  where
-    one : (x : ℕ) → 2 ≤ x → opens (x ∷ []) ≡ 1
-    one zero k = absurd (omega arith)
-    one (suc zero) k = absurd (omega arith)
-    one (suc (suc n)) k = refl
-
-pub opens_valued : (v : List ℕ) (i : ℕ) → i < length v → get_or v i 0 < 2 → opens (take (i + 1) v) ≡ opens (take i v)
-opens_valued v i h k = let e = none (get_or v i 0) k in let s = opens_take v i h in omega arith
-  where
-    none : (x : ℕ) → x < 2 → opens (x ∷ []) ≡ 0
-    none zero k = refl
-    none (suc zero) k = refl
-    none (suc (suc n)) k = absurd (omega arith)
+    step : (x : ℕ) (xs : List ℕ) → opens (x ∷ xs) ≡ cond (leb 2 x) (1 + opens xs) (opens xs)
+    step zero xs = refl
+    step (suc zero) xs = refl
+    step (suc (suc n)) xs = let e = le-leb 2 (suc (suc n)) (omega arith) in rw e (omega arith)
 
 turned : {S : Type 0} (e : Bool) (n u : S) → cond e n u ≡ cond (cond e false true) u n
 turned true n u = refl

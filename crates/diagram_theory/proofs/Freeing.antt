@@ -1,7 +1,7 @@
 -- Single writes, as `Marked` and `Freed` say them.
-use Rattle.std.proofs.Common.{◌≡◌, ℕ, zero, suc, ◌+◌, ◌<◌, ◌≤◌, Bool, true, false, cond, ◌&&◌, ◌||◌, eqb, leb, ◌≢◌, List, length, get_or, set, replicate, sym, refl, ap, ◌∙◌, subst, inl, inr, arith}
+use Rattle.std.proofs.Common.{◌≡◌, ℕ, zero, suc, ◌+◌, ◌<◌, ◌≤◌, Bool, true, false, cond, ◌&&◌, ◌||◌, eqb, leb, ◌≢◌, List, length, map, get_or, set, replicate, sym, refl, ap, ◌∙◌, subst, inl, inr, arith}
 use mathlib.Core.Bool.{and-true, and-false}
-use Rattle.std.proofs.lemmas.List.{get_or-set_same, get_or-set_other}
+use Rattle.std.proofs.lemmas.List.{get_or-set_same, get_or-set_other, get_or-map, map-set, length-map}
 use Rattle.std.proofs.lemmas.Bool.{and_from, and_left, and_right, cases_eq, cases_lt, eq-eqb, ne_eqb, lt-ltb, le-ltb, le-leb, lt-leb, both_ways, cond-false}
 use Rattle.builds.specs.Values.{allows}
 use Rattle.diagram_theory.specs.Seen.{inside, Marked, Freed}
@@ -48,16 +48,24 @@ freed_none on from al xs o = sym (ap (λ z. get_or xs o false || z) (off on (ins
       | inr a ↦ and_right _ _ (le-ltb o from a)
     ]
 
-pub freed_off : (from to : ℕ) (al xs : List Bool) → Freed false from to al xs xs
-freed_off from to al xs o = sym (or_false (get_or xs o false))
-
-pub freed_more_by_one : (from j : ℕ) (al old now : List Bool) → from ≤ j → j < length now → Freed true from j al old now
-    → Freed true from (j + 1) al old (set now j (get_or now j false || get_or al j false))
-freed_more_by_one from j al old now h l f o = elim (cases_eq o j) [
-  | inl e ↦ rw (e, get_or-set_same now j (get_or now j false || get_or al j false) false l, inside_new from j h)
-      (ap (λ z. z || get_or al j false) (f j ∙ ap (λ z. get_or old j false || (z && get_or al j false)) (inside_self from j) ∙ or_false (get_or old j false)))
-  | inr e ↦ get_or-set_other now j o (get_or now j false || get_or al j false) false e ∙ f o ∙ ap (λ z. get_or old o false || (z && get_or al o false)) (sym (inside_other from j o e))
+-- one option more
+pub freed_seen : (from j : ℕ) (al old now new : List Bool) → from ≤ j → Freed true from j al old now → Marked (get_or al j false) j now new → Freed true from (j + 1) al old new
+freed_seen from j al old now new h f m o = elim (cases_eq o j) [
+  | inl e ↦ (let here : get_or new j false ≡ (get_or now j false || get_or al j false) =
+      m j ∙ ap (λ z. get_or now j false || (get_or al j false && z)) (eq-eqb j j refl) ∙ ap (λ z. get_or now j false || z) (and-true (get_or al j false)) in
+      let before : get_or now j false ≡ get_or old j false =
+      f j ∙ ap (λ z. get_or old j false || (z && get_or al j false)) (inside_self from j) ∙ or_false (get_or old j false) in
+      rw (e, inside_new from j h) (here ∙ ap (λ z. z || get_or al j false) before))
+  | inr e ↦ (let same : get_or new o false ≡ get_or now o false =
+      m o ∙ ap (λ z. get_or now o false || (get_or al j false && z)) (ne_eqb o j e) ∙ ap (λ z. get_or now o false || z) (and-false (get_or al j false)) ∙ or_false (get_or now o false) in
+      same ∙ f o ∙ ap (λ z. get_or old o false || (z && get_or al o false)) (sym (inside_other from j o e)))
 ]
+
+-- one truth value of an element is true too, if on
+pub marked_field : {A : Type 0} (f : A → Bool) (on : Bool) (c : ℕ) (xs : List A) (y d : A) → c < length xs → f y ≡ (f (get_or xs c d) || on) → Marked on c (map f xs) (map f (set xs c y))
+marked_field f on c xs y d h e =
+    let is : (get_or (map f xs) c false || on) ≡ f y = ap (λ z. z || on) (get_or-map f xs c d false h) ∙ sym e in
+    subst (λ zs. Marked on c (map f xs) zs) (ap (λ z. set (map f xs) c z) is ∙ sym (map-set f xs c y)) (marked_set on c (map f xs) (simp length-map h))
 
 pub allows_false : (x : ℕ) → cond (eqb x 1) false true ≡ allows x false
 allows_false zero = refl
@@ -72,7 +80,13 @@ allows_true (suc n) = cond-false _ _ _ (ne_eqb (suc n) 0 (omega arith)) ∙ tail
     tail zero = refl
     tail (suc n) = refl
 
-pub all_false : (m n : ℕ) → get_or (replicate m false) n false ≡ false
-all_false zero n = refl
-all_false (suc m) zero = refl
-all_false (suc m) (suc n) = all_false m n
+-- what is the same everywhere
+pub all_same : {A : Type 0} (x : A) (m n : ℕ) → get_or (replicate m x) n x ≡ x
+all_same x zero n = refl
+all_same x (suc m) zero = refl
+all_same x (suc m) (suc n) = all_same x m n
+
+pub none_of : {A : Type 0} (f : A → Bool) (x : A) → f x ≡ false → (m n : ℕ) → get_or (map f (replicate m x)) n false ≡ false
+none_of f x e zero n = refl
+none_of f x e (suc m) zero = e
+none_of f x e (suc m) (suc n) = none_of f x e m n

@@ -1,32 +1,44 @@
 -- Jumped options are free: each puts the sum of its two weights in front.
-use Rattle.std.proofs.Common.{◌≡◌, ℕ, zero, suc, ◌+◌, ◌-◌, ◌<◌, ◌≤◌, true, false, List, length, get_or, sym, refl, ap, ◌∙◌, arith}
-use Rattle.std.proofs.lemmas.List.{get_or_read}
+use Rattle.std.proofs.Common.{◌≡◌, ℕ, zero, suc, ◌+◌, ◌-◌, ◌<◌, ◌≤◌, true, false, List, [], ◌∷◌, ◌++◌, length, get_or, take, drop, reverse, fold, sym, refl, ap, ◌∙◌, arith}
+use Rattle.std.specs.List.{zip}
+use Rattle.std.proofs.Math.Seq.{drop-cons}
+use Rattle.std.proofs.lemmas.List.{get_or_default, reverse-append, length-reverse, length-take-le, length-drop}
+use Rattle.std.proofs.lemmas.List.Sums.{fold_push}
 use Rattle.diagrams.specs.declared.row.Row.{Row}
 use Rattle.diagrams.specs.Rows.{row_at, option_of, Lawful}
 use Rattle.diagram_theory.specs.Semirings.{Laws, Weights, weight, sum_from, node_sum, jumps}
 use Rattle.diagram_theory.proofs.Within.{option_below}
 use Rattle.diagram_theory.proofs.Steps.{jump, branch}
 
-pub jumps_none : {S : Type 0} (k : Weights S) (v g : ℕ) (x : S) → g ≡ 0 → jumps k v g x ≡ x
-jumps_none k v g x e = rw e refl
+zip_last : {A B : Type 0} (ls : List A) (hs : List B) (a : A) (b : B) → length ls ≡ length hs → zip (ls ++ a ∷ []) (hs ++ b ∷ []) ≡ zip ls hs ++ (a, b) ∷ []
+zip_last [] [] a b h = refl
+zip_last [] (y ∷ hs) a b h = absurd (omega arith)
+zip_last (x ∷ ls) [] a b h = absurd (omega arith)
+zip_last (x ∷ ls) (y ∷ hs) a b h = ap (λ ps. (x, y) ∷ ps) (zip_last ls hs a b (omega arith))
 
--- one option more in front
-pub jumps_more : {S : Type 0} (k : Weights S) (v j to : ℕ) (x y : S) → suc v ≡ j → j ≤ to → y ≡ jumps k j (to - j) x
-    → k.times (k.plus (weight k v false) (weight k v true)) y ≡ jumps k v (to - v) x
-jumps_more k v j to x y e h is =
-    let g : to - v ≡ suc (to - suc v) = omega arith in
-    let y-is : y ≡ jumps k (suc v) (to - suc v) x = rw e is in
-    ap (λ z. k.times (k.plus (weight k v false) (weight k v true)) z) y-is ∙ ap (λ z. jumps k v z x) (sym g)
+-- where two lists are read from the back, their first elements come last
+folded_last : {S : Type 0} (f : S → S × S → S) (x : S) (ls hs : List S) (a b : S) → length ls ≡ length hs
+    → fold f x (zip (reverse (a ∷ ls)) (reverse (b ∷ hs))) ≡ f (fold f x (zip (reverse ls) (reverse hs))) (a, b)
+folded_last f x ls hs a b h =
+    ap (λ l. fold f x (zip l (reverse (b ∷ hs)))) (reverse-append (a ∷ []) ls)
+    ∙ ap (λ l. fold f x (zip (reverse ls ++ a ∷ []) l)) (reverse-append (b ∷ []) hs)
+    ∙ ap (λ ps. fold f x ps) (zip_last (reverse ls) (reverse hs) a b (length-reverse ls ∙ h ∙ sym (length-reverse hs)))
+    ∙ fold_push f x (zip (reverse ls) (reverse hs)) (a, b)
 
--- one turn of the loop, from what it reads and computes
-pub jumps_turn : {S : Type 0} (k : Weights S) (j to : ℕ) (x y lo hi sum new : S) → 0 < j → j ≤ to → to ≤ length k.lows → to ≤ length k.highs
-    → lo ≡ get_or k.lows (j - 1) lo → hi ≡ get_or k.highs (j - 1) hi → sum ≡ k.plus lo hi → new ≡ k.times sum y
-    → y ≡ jumps k j (to - j) x → new ≡ jumps k (j - 1) (to - (j - 1)) x
-jumps_turn k j to x y lo hi sum new pos h low-in high-in elo ehi es en ey =
-    let lo-is : lo ≡ get_or k.lows (j - 1) k.one = get_or_read k.lows (j - 1) lo (omega arith) elo k.one in
-    let hi-is : hi ≡ get_or k.highs (j - 1) k.one = get_or_read k.highs (j - 1) hi (omega arith) ehi k.one in
-    let made : new ≡ k.times (k.plus (weight k (j - 1) false) (weight k (j - 1) true)) y = cc in
-    made ∙ jumps_more k (j - 1) j to x y (omega arith) h ey
+-- the weights of the jumped options, folded from the last option back
+pub jumps_folded : {S : Type 0} (k : Weights S) (g v : ℕ) (x : S) → v + g ≤ length k.lows → v + g ≤ length k.highs
+    → fold (λ (y : S) (p : S × S). k.times (k.plus p.0 p.1) y) x (zip (reverse (take g (drop v k.lows))) (reverse (take g (drop v k.highs)))) ≡ jumps k v g x
+jumps_folded k zero v x a b = refl
+jumps_folded {S} k (suc g) v x a b =
+    let f : S → S × S → S = λ y p. k.times (k.plus p.0 p.1) y in
+    let ls = take g (drop (suc v) k.lows) in
+    let hs = take g (drop (suc v) k.highs) in
+    let same : length ls ≡ length hs =
+    length-take-le g (drop (suc v) k.lows) (simp length-drop (omega arith)) ∙ sym (length-take-le g (drop (suc v) k.highs) (simp length-drop (omega arith))) in
+    ap (λ l. fold f x (zip (reverse (take (suc g) l)) (reverse (take (suc g) (drop v k.highs))))) (drop-cons k.lows v k.one (omega arith))
+    ∙ ap (λ l. fold f x (zip (reverse (take (suc g) (weight k v false ∷ drop (suc v) k.lows))) (reverse (take (suc g) l)))) (drop-cons k.highs v k.one (omega arith))
+    ∙ folded_last f x ls hs (weight k v false) (weight k v true) same
+    ∙ ap (λ y. f y (weight k v false, weight k v true)) (jumps_folded k g (suc v) x (omega arith) (omega arith))
 
 module _ {S : Type 0} (valid : S → Type 0) (k : Weights S) (laws : Laws valid k.zero k.one k.plus k.times)
     (w : ℕ) (rows : List Row) (used : ℕ) (ok : Lawful w rows used) where
@@ -38,45 +50,31 @@ module _ {S : Type 0} (valid : S → Type 0) (k : Weights S) (laws : Laws valid 
       ap (λ z. k.times (k.plus (weight k v false) (weight k v true)) z) (jumps_sum g (suc v) n h (omega arith) u)
       ∙ sym (jump valid k laws w rows used ok v n h (omega arith) (omega arith))
 
-  -- the value of a row's node, as the code computes it
-  pub node_is : (r : ℕ) → r < used → (a b x : S)
-      → a ≡ jumps k ((row_at rows r).option + 1) (option_of w rows (row_at rows r).low - ((row_at rows r).option + 1)) (node_sum k w rows (row_at rows r).low)
-      → b ≡ jumps k ((row_at rows r).option + 1) (option_of w rows (row_at rows r).high - ((row_at rows r).option + 1)) (node_sum k w rows (row_at rows r).high)
-      → x ≡ k.plus (k.times (weight k (row_at rows r).option false) a) (k.times (weight k (row_at rows r).option true) b)
+  -- what comes through a node, from what the code reads and calls
+  pub through_turn : (v n : ℕ) → n < used + 2 → v ≤ option_of w rows n → (to : ℕ) (x y : S)
+      → to ≡ option_of w rows n → x ≡ node_sum k w rows n → y ≡ jumps k v (to - v) x → y ≡ sum_from k w rows v n
+  through_turn v n h u to x y et ex ey =
+      ey ∙ ap (λ t. jumps k v (t - v) x) et ∙ ap (λ z. jumps k v (option_of w rows n - v) z) ex
+      ∙ jumps_sum (option_of w rows n - v) v n h (omega arith) (option_below w rows used ok n h)
+
+  -- the value of a row's node, from what the code reads and calls
+  pub node_turn : (r : ℕ) → r < used → w ≤ length k.lows → w ≤ length k.highs → (a b lo hi p q x : S)
+      → a ≡ sum_from k w rows ((row_at rows r).option + 1) (row_at rows r).low
+      → b ≡ sum_from k w rows ((row_at rows r).option + 1) (row_at rows r).high
+      → p ≡ k.times (get_or k.lows (row_at rows r).option lo) a → q ≡ k.times (get_or k.highs (row_at rows r).option hi) b → x ≡ k.plus p q
       → x ≡ node_sum k w rows (r + 2)
-  node_is r h a b x ea eb ex =
-      let (p, lo, hi, d, e) = ok r h in
+  node_turn r h wl wh a b lo hi p q x ea eb ep eq ex =
+      let (o, dl, dh, d, e) = ok r h in
       let v = (row_at rows r).option in
       let up : v + 1 ≡ suc v = omega arith in
       let two : r + 2 ≡ suc (suc r) = omega arith in
-      let a-is : a ≡ sum_from k w rows (suc v) (row_at rows r).low =
-      ea ∙ jumps_sum (option_of w rows (row_at rows r).low - (v + 1)) (v + 1) (row_at rows r).low (omega arith) (omega arith) (option_below w rows used ok (row_at rows r).low (omega arith)) ∙ ap (λ z. sum_from k w rows z (row_at rows r).low) up in
-      let b-is : b ≡ sum_from k w rows (suc v) (row_at rows r).high =
-      eb ∙ jumps_sum (option_of w rows (row_at rows r).high - (v + 1)) (v + 1) (row_at rows r).high (omega arith) (omega arith) (option_below w rows used ok (row_at rows r).high (omega arith)) ∙ ap (λ z. sum_from k w rows z (row_at rows r).high) up in
-      ex ∙ ap (λ z. k.plus (k.times (weight k v false) z) (k.times (weight k v true) b)) a-is
-      ∙ ap (λ z. k.plus (k.times (weight k v false) (sum_from k w rows (suc v) (row_at rows r).low)) (k.times (weight k v true) z)) b-is
+      let lo-is : get_or k.lows v lo ≡ weight k v false = get_or_default k.lows v lo k.one (omega arith) in
+      let hi-is : get_or k.highs v hi ≡ weight k v true = get_or_default k.highs v hi k.one (omega arith) in
+      let p-is : p ≡ k.times (weight k v false) (sum_from k w rows (suc v) (row_at rows r).low) =
+      ep ∙ ap (λ z. k.times z a) lo-is ∙ ap (λ z. k.times (weight k v false) z) (ea ∙ ap (λ z. sum_from k w rows z (row_at rows r).low) up) in
+      let q-is : q ≡ k.times (weight k v true) (sum_from k w rows (suc v) (row_at rows r).high) =
+      eq ∙ ap (λ z. k.times z b) hi-is ∙ ap (λ z. k.times (weight k v true) z) (eb ∙ ap (λ z. sum_from k w rows z (row_at rows r).high) up) in
+      ex ∙ ap (λ z. k.plus z q) p-is
+      ∙ ap (λ z. k.plus (k.times (weight k v false) (sum_from k w rows (suc v) (row_at rows r).low)) z) q-is
       ∙ sym (branch valid k laws w rows used ok r h)
       ∙ ap (λ z. node_sum k w rows z) (sym two)
-
-  -- the value of a row's node, from what the code reads and calls
-  pub node_turn : (r : ℕ) → r < used → w ≤ length k.lows → w ≤ length k.highs → (col : List S) → used + 2 ≤ length col
-      → ((n : ℕ) (d : S) → n < r + 2 → get_or col n d ≡ node_sum k w rows n)
-      → (ul uh : ℕ) (cl ch a b lo hi p q x : S)
-      → ul ≡ option_of w rows (row_at rows r).low → uh ≡ option_of w rows (row_at rows r).high
-      → cl ≡ get_or col (row_at rows r).low cl → ch ≡ get_or col (row_at rows r).high ch
-      → a ≡ jumps k ((row_at rows r).option + 1) (ul - ((row_at rows r).option + 1)) cl
-      → b ≡ jumps k ((row_at rows r).option + 1) (uh - ((row_at rows r).option + 1)) ch
-      → lo ≡ get_or k.lows (row_at rows r).option lo → hi ≡ get_or k.highs (row_at rows r).option hi
-      → p ≡ k.times lo a → q ≡ k.times hi b → x ≡ k.plus p q
-      → x ≡ node_sum k w rows (r + 2)
-  node_turn r h wl wh col long below ul uh cl ch a b lo hi p q x eul euh ecl ech ea eb elo ehi ep eq ex =
-      let (o, dl, dh, d, e) = ok r h in
-      let v = (row_at rows r).option in
-      let lo-is : lo ≡ get_or k.lows v k.one = get_or_read k.lows v lo (omega arith) elo k.one in
-      let hi-is : hi ≡ get_or k.highs v k.one = get_or_read k.highs v hi (omega arith) ehi k.one in
-      let cl-is : cl ≡ node_sum k w rows (row_at rows r).low = ecl ∙ below _ cl dl in
-      let ch-is : ch ≡ node_sum k w rows (row_at rows r).high = ech ∙ below _ ch dh in
-      node_is r h a b x
-      (ea ∙ ap (λ z. jumps k (v + 1) (z - (v + 1)) cl) eul ∙ ap (λ z. jumps k (v + 1) (option_of w rows (row_at rows r).low - (v + 1)) z) cl-is)
-      (eb ∙ ap (λ z. jumps k (v + 1) (z - (v + 1)) ch) euh ∙ ap (λ z. jumps k (v + 1) (option_of w rows (row_at rows r).high - (v + 1)) z) ch-is)
-      (ex ∙ ap (λ z. k.plus z q) (ep ∙ ap (λ z. k.times z a) lo-is) ∙ ap (λ z. k.plus (k.times (weight k v false) a) z) (eq ∙ ap (λ z. k.times z b) hi-is))

@@ -12,40 +12,30 @@ use Rattle.diagrams.proofs.First.{first_clear}
 -- one check after another, by what the first said
 pub then_stops : (a b : Result (Unit {0}) Located) (f : Located) → a ≡ Err f → and_then a b ≡ Err f
 unfolding and_then
-then_stops (Ok x) b f e = absurd (let z : ◌≡◌ {A = ℕ} 0 1 = cc in omega arith)
+then_stops (Ok x) b f e = cc
 then_stops (Err g) b f e = e
-
-pub then_goes_on : (a b : Result (Unit {0}) Located) (x : Unit {0}) → a ≡ Ok x → and_then a b ≡ b
-unfolding and_then
-then_goes_on (Ok y) b x e = refl
-then_goes_on (Err g) b x e = absurd (let z : ◌≡◌ {A = ℕ} 0 1 = cc in omega arith)
 
 pub then_clear : (a b : Result (Unit {0}) Located) (x : Unit {0}) → and_then a b ≡ Ok x → (a ≡ Ok tt) × (b ≡ Ok tt)
 unfolding and_then
 then_clear (Ok x) b y e = (refl, e)
-then_clear (Err f) b y e = absurd (let z : ◌≡◌ {A = ℕ} 0 1 = cc in omega arith)
+then_clear (Err f) b y e = cc
 
 -- a check that does not refuse found no item
 pub refused_clear : (c : TableCause) (i : Option ℕ) (x : Unit {0}) → refused_at c i ≡ Ok x → i ≡ None
 unfolding refused_at
 refused_clear c None x e = refl
-refused_clear c (Some i) x e = absurd (let z : ◌≡◌ {A = ℕ} 0 1 = cc in omega arith)
+refused_clear c (Some i) x e = cc
 
 pub at_clear : (c : TableCause) (b : Bool) (i : ℕ) (x : Unit {0}) → refused_at c (at_item b i) ≡ Ok x → b ≡ false
 unfolding refused_at
-at_clear c true i x e = absurd (let z : ◌≡◌ {A = ℕ} 0 1 = cc in omega arith)
+at_clear c true i x e = cc
 at_clear c false i x e = refl
 
 -- a check of one item, by its test
 pub at_found : (c : TableCause) (b : Bool) (i : ℕ) → b ≡ true → refused_at c (at_item b i) ≡ Err (record { number = cause_number c; item = i })
 unfolding refused_at
 at_found c true i e = refl
-at_found c false i e = absurd (let z : ◌≡◌ {A = ℕ} 0 1 = cc in omega arith)
-
-pub at_passed : (c : TableCause) (b : Bool) (i : ℕ) → b ≡ false → refused_at c (at_item b i) ≡ Ok tt
-unfolding refused_at
-at_passed c true i e = absurd (let z : ◌≡◌ {A = ℕ} 0 1 = cc in omega arith)
-at_passed c false i e = refl
+at_found c false i e = cc
 
 pub clear_sizes : (room w m n : ℕ) (x : Unit {0}) → sizes_cause room w m n ≡ Ok x → (1 ≤ w) × (w ≤ 128) × (m ≤ room) × (n ≤ 128)
 unfolding sizes_cause

@@ -1,6 +1,9 @@
 -- `first`: found at its first place, or none passes.
-use Rattle.std.proofs.Common.{◌≡◌, ℕ, zero, suc, ◌<◌, ◌≤◌, Bool, true, false, Some, None, Option, sym, refl, ap, ◌∙◌, ⊎_elim, arith}
-use Rattle.std.proofs.lemmas.Bool.{cases_lt, cond-true, cond-false}
+use Rattle.std.proofs.Common.{◌≡◌, ℕ, zero, suc, ◌<◌, ◌≤◌, Bool, true, false, List, length, get_or, Some, None, Option, sym, refl, ap, ◌∙◌, zero-add, ⊎_elim, arith}
+use Rattle.std.specs.List.{position, position_or_len, enumerate_from}
+use Rattle.std.proofs.lemmas.Bool.{cases_lt, cond-true, cond-false, lt-ltb, le-ltb}
+use Rattle.std.proofs.lemmas.List.FromFn.{length-enumerate_from, get_or-enumerate_from}
+use Rattle.std.proofs.lemmas.List.Sums.{fails_before_first, passes_at_first}
 use Rattle.diagrams.specs.Causes.{first, or_later, at_item}
 
 pub first_none : (p : ℕ → Bool) (n : ℕ) → ((k : ℕ) → k < n → p k ≡ false) → first p n ≡ None
@@ -22,11 +25,11 @@ first_found p (suc n) r l h t =
     (cases_lt r n)
 
 at_none : (b : Bool) (n : ℕ) → at_item b n ≡ None → b ≡ false
-at_none true n h = absurd (let y : ◌≡◌ {A = ℕ} 0 1 = cc in omega arith)
+at_none true n h = cc
 at_none false n h = refl
 
 or_none : (x y : Option ℕ) → or_later x y ≡ None → (x ≡ None) × (y ≡ None)
-or_none (Some i) y h = absurd (let z : ◌≡◌ {A = ℕ} 0 1 = cc in omega arith)
+or_none (Some i) y h = cc
 or_none None y h = (refl, h)
 
 -- none found: none passes
@@ -39,3 +42,31 @@ first_clear p (suc n) e k l =
     (λ (b : k < n). first_clear p n before k b)
     (λ (b : n ≤ k). let same : k ≡ n = omega arith in rw same (at_none (p n) n here))
     (cases_lt k n)
+
+-- tests that agree below n find the same
+pub first_same : (p q : ℕ → Bool) (n : ℕ) → ((k : ℕ) → k < n → p k ≡ q k) → first p n ≡ first q n
+unfolding first
+first_same p q zero h = refl
+first_same p q (suc n) h =
+    ap (λ x. or_later x (at_item (p n) n)) (first_same p q n (λ k l. h k (omega arith)))
+    ∙ ap (λ b. or_later (first q n) (at_item b n)) (h n (omega arith))
+
+-- what `position` finds in a list is the first number whose item passes
+pub position_is_first : {X : Type 0} (p : X → Bool) (xs : List X) (d : X) → position p xs ≡ first (λ k. p (get_or xs k d)) (length xs)
+position_is_first p xs d =
+    ⊎_elim
+    (λ (b : position_or_len p xs < length xs).
+    cond-true _ _ _ (lt-ltb _ _ b)
+    ∙ sym (first_found (λ k. p (get_or xs k d)) (length xs) (position_or_len p xs) b (λ k l. fails_before_first p xs k d l) (passes_at_first p xs d b)))
+    (λ (b : length xs ≤ position_or_len p xs).
+    cond-false _ _ _ (le-ltb _ _ b)
+    ∙ sym (first_none (λ k. p (get_or xs k d)) (length xs) (λ k l. fails_before_first p xs k d (omega arith))))
+    (cases_lt (position_or_len p xs) (length xs))
+
+-- the same for a test that is given an item's number too
+pub numbered_position_is_first : {X : Type 0} (p : ℕ → X → Bool) (xs : List X) (d : X)
+    → position (λ (x : ℕ × X). p x.0 x.1) (enumerate_from 0 xs) ≡ first (λ k. p k (get_or xs k d)) (length xs)
+numbered_position_is_first {X} p xs d =
+    position_is_first (λ (x : ℕ × X). p x.0 x.1) (enumerate_from 0 xs) (0, d)
+    ∙ ap (first (λ k. p (get_or (enumerate_from 0 xs) k (0, d)).0 (get_or (enumerate_from 0 xs) k (0, d)).1)) (length-enumerate_from 0 xs)
+    ∙ first_same _ _ (length xs) (λ k l. ap (λ (x : ℕ × X). p x.0 x.1) (get_or-enumerate_from 0 xs k (0, d) l) ∙ ap (λ j. p j (get_or xs k d)) (zero-add k))

@@ -1,60 +1,30 @@
-// What a table is refused for: one test for each cause of a row, and one scan for each cause, which finds the first row at fault.
-ghost use Rattle.std.specs.Prelude.{◌≡◌, ℕ, ◌+◌, ◌<◌, ◌≤◌, false, length, slice_index};
-ghost use Rattle.diagrams.specs.Rows.{row_at, option_of};
-ghost use Rattle.diagrams.specs.Causes.{first, option_bad, arrow_bad, child_bad, root_bad, sizes_cause, rows_cause, roots_cause, open_cause, refused_at};
+// What a table is refused for: one test for each cause of a row, and one search for each cause, which finds the first row at fault.
+ghost use Rattle.std.specs.Prelude.{◌≡◌, ℕ, ◌+◌, ◌^◌, ◌<◌, length, slice_index};
+ghost use Rattle.diagrams.specs.Rows.{row_at};
+ghost use Rattle.diagrams.specs.Causes.{first, option_bad, arrow_bad, child_bad, root_bad, sizes_cause, rows_cause, open_cause, refused_at};
 ghost use Rattle.bank.specs.Numbers.{located};
 
-use crate::row::Row;
+use crate::row::{Row, option_of};
 use bank::table_fault::{TableCause, TableFault};
 
-// The first row with an option at or above the width.
-fn first_option(width: usize, rows: &[Row]) -> Option<usize>
-    ensures { result ≡ first (λ k. option_bad width (row_at rows.now k)) (length rows.now) }
-{
-    for r in 0..rows.len() {
-        if width <= rows[r].option as usize {
-            return Some(r);
-        }
-    }
-    None
+// A table as a caller hands it in: it may break any rule.
+#[derive(Clone, Copy, Drop)]
+pub(crate) struct Unchecked<'a> {
+    pub(crate) width: usize,
+    pub(crate) rows: &'a [Row],
+    pub(crate) roots: &'a [u32],
 }
 
 // Whether an arrow of the row `r` does not lead to a smaller node.
 pub(crate) fn arrow_fails(r: usize, row: Row) -> bool
-    requires { r ≤ 2048 }
+    requires { r + 2 < 2 ^ 64 }
     ensures { result ≡ arrow_bad r row }
 {
     r + 2 <= row.low as usize || r + 2 <= row.high as usize
 }
 
-// The first row with an arrow that does not lead to a smaller node.
-fn first_arrow(rows: &[Row]) -> Option<usize>
-    requires { length rows.now ≤ 2048 }
-    ensures { result ≡ first (λ k. arrow_bad k (row_at rows.now k)) (length rows.now) }
-{
-    for r in 0..rows.len() {
-        if arrow_fails(r, rows[r]) {
-            return Some(r);
-        }
-    }
-    None
-}
-
-// The option of a node; the ends stand after all options.
-fn option_of(width: usize, rows: &[Row], node: usize) -> usize
-    requires { node < length rows.now + 2 }
-    ensures { result ≡ option_of width rows.now node }
-{
-    if node < 2 {
-        width
-    } else {
-        rows[node - 2].option as usize
-    }
-}
-
 // Whether a child of the row has an option that is not greater.
 pub(crate) fn child_fails(width: usize, rows: &[Row], row: Row) -> bool
-    requires { (row.low < length rows.now + 2) × (row.high < length rows.now + 2) }
     ensures { result ≡ child_bad width rows.now row }
 {
     let option = row.option as usize;
@@ -62,34 +32,9 @@ pub(crate) fn child_fails(width: usize, rows: &[Row], row: Row) -> bool
         || option_of(width, rows, row.high as usize) <= option
 }
 
-// The first row with a child whose option is not greater.
-fn first_child(width: usize, rows: &[Row]) -> Option<usize>
-    requires { (k : ℕ) → k < length rows.now → arrow_bad k (row_at rows.now k) ≡ false }
-    ensures { result ≡ first (λ k. child_bad width rows.now (row_at rows.now k)) (length rows.now) }
-{
-    for r in 0..rows.len() {
-        if child_fails(width, rows, rows[r]) {
-            return Some(r);
-        }
-    }
-    None
-}
-
-// The first root that is no node over so many rows.
-fn first_root(row_count: usize, roots: &[u32]) -> Option<usize>
-    requires { row_count ≤ 2048 }
-    ensures { result ≡ first (λ i. root_bad row_count (slice_index roots.now i)) (length roots.now) }
-{
-    for i in 0..roots.len() {
-        if row_count + 2 <= roots[i] as usize {
-            return Some(i);
-        }
-    }
-    None
-}
-
 // The fault of a cause at the item found, if any.
-fn refused_at(cause: TableCause, item: Option<usize>) -> Result<(), TableFault>
+#[tactic(auto, unfolding(crate::specs::Causes::refused_at))]
+pub(crate) fn refused_at(cause: TableCause, item: Option<usize>) -> Result<(), TableFault>
     ensures { located result ≡ refused_at cause item }
 {
     match item {
@@ -98,57 +43,74 @@ fn refused_at(cause: TableCause, item: Option<usize>) -> Result<(), TableFault>
     }
 }
 
-// Refuses a width or a number of rows or roots that no table has.
-fn check_sizes(
-    room: usize,
-    width: usize,
-    row_count: usize,
-    root_count: usize,
-) -> Result<(), TableFault>
-    ensures { located result ≡ sizes_cause room width row_count root_count }
-{
-    if width == 0 || width > 128 {
-        return Err(TableFault {
-            cause: TableCause::BadWidth,
-            item: 0,
-        });
+impl<'a> Unchecked<'a> {
+    // The first row with an option at or above the width.
+    fn first_option(&self) -> Option<usize>
+        ensures { result ≡ first (λ k. option_bad self.now.width (row_at self.now.rows.now k)) (length self.now.rows.now) }
+    {
+        self.rows
+            .iter()
+            .position(|row| self.width <= row.option as usize)
     }
-    if row_count > room {
-        return Err(TableFault {
-            cause: TableCause::TooMany,
-            item: room,
-        });
-    }
-    if root_count > 128 {
-        return Err(TableFault {
-            cause: TableCause::TooMany,
-            item: 128,
-        });
-    }
-    Ok(())
-}
 
-// Refuses a table with a bad row: each cause is looked for in all rows before the next cause.
-fn check_rows(width: usize, rows: &[Row]) -> Result<(), TableFault>
-    requires { length rows.now ≤ 2048 }
-    ensures { located result ≡ rows_cause width rows.now }
-{
-    refused_at(TableCause::OptionTooLarge, first_option(width, rows))?;
-    refused_at(TableCause::ArrowNotDown, first_arrow(rows))?;
-    refused_at(TableCause::ChildNotLater, first_child(width, rows))
-}
+    // The first row with an arrow that does not lead to a smaller node.
+    fn first_arrow(&self) -> Option<usize>
+        ensures { result ≡ first (λ k. arrow_bad k (row_at self.now.rows.now k)) (length self.now.rows.now) }
+    {
+        self.rows
+            .iter()
+            .enumerate()
+            .position(|(r, row)| arrow_fails(r, *row))
+    }
 
-// Refuses a table that breaks a rule, or has more rows than there is room for.
-pub(crate) fn check_table(
-    room: usize,
-    width: usize,
-    rows: &[Row],
-    roots: &[u32],
-) -> Result<(), TableFault>
-    requires { room ≤ 2048 }
-    ensures { located result ≡ open_cause room width rows.now roots.now }
-{
-    check_sizes(room, width, rows.len(), roots.len())?;
-    check_rows(width, rows)?;
-    refused_at(TableCause::RootUnknown, first_root(rows.len(), roots))
+    // The first row with a child whose option is not greater.
+    fn first_child(&self) -> Option<usize>
+        ensures { result ≡ first (λ k. child_bad self.now.width self.now.rows.now (row_at self.now.rows.now k)) (length self.now.rows.now) }
+    {
+        self.rows
+            .iter()
+            .position(|row| child_fails(self.width, self.rows, *row))
+    }
+
+    // The first root that is no node.
+    fn first_root(&self) -> Option<usize>
+        ensures { result ≡ first (λ i. root_bad (length self.now.rows.now) (slice_index self.now.roots.now i)) (length self.now.roots.now) }
+    {
+        let nodes = self.rows.len() + 2;
+        self.roots.iter().position(|root| nodes <= *root as usize)
+    }
+
+    // Refuses a width or a number of rows or roots that no table has.
+    #[tactic(auto, unfolding(crate::specs::Causes::sizes_cause, crate::specs::Causes::and_then))]
+    fn check_sizes(&self, room: usize) -> Result<(), TableFault>
+        ensures { located result ≡ sizes_cause room self.now.width (length self.now.rows.now) (length self.now.roots.now) }
+    {
+        let bad_width = self.width == 0 || self.width > 128;
+        refused_at(TableCause::BadWidth, bad_width.then_some(0))?;
+        refused_at(
+            TableCause::TooMany,
+            (self.rows.len() > room).then_some(room),
+        )?;
+        refused_at(TableCause::TooMany, (self.roots.len() > 128).then_some(128))
+    }
+
+    // Refuses a bad row: each cause is looked for in all rows before the next cause.
+    #[tactic(auto, unfolding(crate::specs::Causes::rows_cause, crate::specs::Causes::and_then))]
+    fn check_rows(&self) -> Result<(), TableFault>
+        ensures { located result ≡ rows_cause self.now.width self.now.rows.now }
+    {
+        refused_at(TableCause::OptionTooLarge, self.first_option())?;
+        refused_at(TableCause::ArrowNotDown, self.first_arrow())?;
+        refused_at(TableCause::ChildNotLater, self.first_child())
+    }
+
+    // Refuses a table that breaks a rule, or has more rows than there is room for.
+    #[tactic(auto, unfolding(crate::specs::Causes::roots_cause, crate::specs::Causes::and_then))]
+    pub(crate) fn check(&self, room: usize) -> Result<(), TableFault>
+        ensures { located result ≡ open_cause room self.now.width self.now.rows.now self.now.roots.now }
+    {
+        self.check_sizes(room)?;
+        self.check_rows()?;
+        refused_at(TableCause::RootUnknown, self.first_root())
+    }
 }

@@ -1,5 +1,5 @@
 // Opening a table: the whole of it is checked first, so that a refusal leaves the bank as it stood.
-ghost use Rattle.std.specs.Prelude.{◌≡◌, ℕ, ◌+◌, ◌<◌, ◌≤◌, length, set, OnErr, OnOk, slice_index, slice_set};
+ghost use Rattle.std.specs.Prelude.{◌≡◌, ℕ, ◌+◌, ◌<◌, ◌≤◌, [], ◌∷◌, ◌++◌, length, OnErr, OnOk, slice_index};
 ghost use Rattle.option_set.specs.Sets.{member};
 ghost use Rattle.bank.specs.Numbers.{located};
 ghost use Rattle.diagrams.specs.Rows.{Lawful};
@@ -7,26 +7,17 @@ ghost use Rattle.diagrams.specs.Reach.{reaches};
 ghost use Rattle.diagrams.specs.Causes.{room_of, open_cause};
 ghost use Rattle.diagrams.specs.Filled.{root_nodes, front_replaced};
 
-use crate::check::check_table;
+use crate::check::Unchecked;
 use crate::reading::reading_sets;
 use crate::row::{Root, Row};
 use crate::table::Diagrams;
+use arrayvec::ArrayVec;
 use bank::table_fault::TableFault;
-use option_set::OptionSet;
-
-// Places for roots, before there is one.
-fn no_roots() -> [Root; 128] {
-    let blank = Root {
-        node: 0,
-        reads: OptionSet::empty(),
-    };
-    [blank; 128]
-}
 
 impl<'a> Diagrams<'a> {
     // A bank of one option over the lent memory, without a row or a root.
     pub fn empty(rows: &'a mut [Row]) -> Diagrams<'a>
-        ensures sizes { (result.width ≡ 1) × (result.used ≡ 0) × (result.root_count ≡ 0) }
+        ensures sizes { (result.width ≡ 1) × (result.used ≡ 0) × (result.roots.items ≡ []) }
         ensures rows { result.rows.now ≡ rows.old }
         ensures lent { result.rows.ghost_name ≡ rows.entry.ghost_name }
     {
@@ -34,8 +25,7 @@ impl<'a> Diagrams<'a> {
             width: 1,
             rows,
             used: 0,
-            roots: no_roots(),
-            root_count: 0,
+            roots: ArrayVec::new(),
         }
     }
 
@@ -47,64 +37,56 @@ impl<'a> Diagrams<'a> {
         ensures width { self.new.width ≡ width }
         ensures used { self.new.used ≡ length rows.now }
         ensures rows { self.new.rows.now ≡ front_replaced rows.now self.old.rows.now }
-        ensures roots { self.new.root_count ≡ 0 }
+        ensures roots { self.new.roots.items ≡ [] }
         ensures lent { self.new.rows.ghost_name ≡ self.old.rows.ghost_name }
     {
-        self.used = 0;
-        self.root_count = 0;
-        for i in 0..rows.len() {
-            self.rows[i] = rows[i];
-        }
+        self.roots.clear();
+        self.rows[..rows.len()].copy_from_slice(rows);
         self.width = width;
         self.used = rows.len();
     }
 
     // Adds a root for which there is room, with the set of the options that it reads.
     pub(crate) fn put_root(&mut self, root: Root)
-        requires room { self.old.root_count < 128 }
+        requires room { length self.old.roots.items < 128 }
         requires node { root.node < self.old.used + 2 }
         requires reads { (o : ℕ) → member root.reads.members o ≡ reaches self.old.rows.now root.node o }
         ensures kept { (self.new.width ≡ self.old.width) × (self.new.used ≡ self.old.used) × (self.new.rows ≡ self.old.rows) }
-        ensures roots { self.new.roots ≡ slice_set self.old.roots self.old.root_count root }
-        ensures count { self.new.root_count ≡ self.old.root_count + 1 }
-        ensures long { length self.old.roots ≡ 128 }
+        ensures roots { self.new.roots.items ≡ self.old.roots.items ++ root ∷ [] }
     {
-        let at = self.root_count;
-        self.roots[at] = root;
-        self.root_count = at + 1;
+        self.roots.push(root);
     }
 
     // Takes over roots that are nodes of the rows.
     fn take_roots(&mut self, roots: &[u32])
-        requires none { self.old.root_count ≡ 0 }
+        requires none { self.old.roots.items ≡ [] }
         requires few { length roots.now ≤ 128 }
         requires nodes { (i : ℕ) → i < length roots.now → slice_index roots.now i < self.old.used + 2 }
         ensures kept { (self.new.width ≡ self.old.width) × (self.new.used ≡ self.old.used) × (self.new.rows ≡ self.old.rows) }
-        ensures count { self.new.root_count ≡ length roots.now }
-        ensures nodes { root_nodes self.new.roots self.new.root_count ≡ roots.now }
+        ensures nodes { root_nodes self.new.roots.items ≡ roots.now }
     {
         let used = self.used;
         let sets = reading_sets(self, used);
-        for i in 0..roots.len() {
-            let node = roots[i];
+        for node in roots {
             self.put_root(Root {
-                node,
-                reads: sets[node as usize],
+                node: *node,
+                reads: sets[*node as usize],
             });
         }
     }
 
     // Fills the bank with a table of its own width, rows and roots. A table that breaks a rule is refused, and nothing has changed then.
+    #[tactic(auto, using(crate::proofs::Clear::clear_open))]
     pub fn open(&mut self, width: usize, rows: &[Row], roots: &[u32]) -> Result<(), TableFault>
         ensures answer { located result ≡ open_cause (room_of self.old.rows.now) width rows.now roots.now }
         ensures refused { OnErr result (self.new ≡ self.old) }
-        ensures sizes { OnOk result ((self.new.width ≡ width) × (self.new.used ≡ length rows.now) × (self.new.root_count ≡ length roots.now)) }
+        ensures sizes { OnOk result ((self.new.width ≡ width) × (self.new.used ≡ length rows.now) × (length self.new.roots.items ≡ length roots.now)) }
         ensures rows { OnOk result (self.new.rows.now ≡ front_replaced rows.now self.old.rows.now) }
-        ensures roots { OnOk result (root_nodes self.new.roots self.new.root_count ≡ roots.now) }
+        ensures roots { OnOk result (root_nodes self.new.roots.items ≡ roots.now) }
         ensures lent { self.new.rows.ghost_name ≡ self.old.rows.ghost_name }
     {
-        let room = self.rows.len().min(2048);
-        check_table(room, width, rows, roots)?;
+        let given = Unchecked { width, rows, roots };
+        given.check(self.room())?;
         self.take_rows(width, rows);
         self.take_roots(roots);
         Ok(())

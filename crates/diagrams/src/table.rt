@@ -3,19 +3,30 @@
 ghost use Rattle.std.specs.Prelude.{◌≡◌, ℕ, ◌<◌, ◌≤◌, length, get_or};
 ghost use Rattle.diagrams.specs.Rows.{Lawful};
 ghost use Rattle.diagrams.specs.Roots.{RootedAll, ReachingAll};
+ghost use Rattle.diagrams.specs.Causes.{room_of};
 
 use crate::row::{Root, Row};
+use arrayvec::ArrayVec;
 
 #[derive(Drop)]
 pub struct Diagrams<'a> {
     pub width: usize,
+    // a slice and a count: the rows lie in memory that the caller lends, since nothing here allocates
     pub rows: &'a mut [Row],
     pub used: usize,
-    pub roots: [Root; 128],
-    pub root_count: usize,
-    ghost sized: { (1 ≤ width) × (width ≤ 128) × (used ≤ 2048) × (root_count ≤ 128) },
+    pub roots: ArrayVec<Root, 128>,
+    ghost sized: { (1 ≤ width) × (width ≤ 128) × (used ≤ 2048) × (length roots.items ≤ 128) },
     ghost within: { used ≤ length rows.now },
     ghost lawful: { Lawful width rows.now used },
-    ghost rooted: { RootedAll used roots root_count },
-    ghost reached: { ReachingAll rows.now roots root_count },
+    ghost rooted: { RootedAll used roots.items },
+    ghost reached: { ReachingAll rows.now roots.items },
+}
+
+impl<'a> Diagrams<'a> {
+    // How many rows the lent memory has room for.
+    pub(crate) fn room(&self) -> usize
+        ensures { result ≡ room_of self.now.rows.now }
+    {
+        self.rows.len().min(2048)
+    }
 }

@@ -12,7 +12,7 @@ fn adds_rows_between_roots(rt: HostRuntime) -> Result<(), Fail> {
     bank.add_root(2)?;
     bank.add_row(row(0, 2, 1))?;
     bank.add_root(3)?;
-    assert!(rt; bank.used == 2 && bank.root_count == 2);
+    assert!(rt; bank.used == 2 && bank.roots.len() == 2);
     let second = bank.rows[1];
     assert!(rt; second == row(0, 2, 1) && bank.roots[1].node == 3);
     assert!(rt;
@@ -47,7 +47,7 @@ fn adds_rows_up_to_2048(rt: HostRuntime) -> Result<(), Fail> {
     }
     assert!(rt; refused(bank.add_row(row(0, 0, 1)), 12, 2048));
     bank.add_root(2049)?;
-    assert!(rt; bank.used == 2048 && bank.root_count == 1 && bank.roots[0].reads.contains(0));
+    assert!(rt; bank.used == 2048 && bank.roots.len() == 1 && bank.roots[0].reads.contains(0));
     Ok(())
 }
 
@@ -64,7 +64,7 @@ fn refuses_a_root_by_its_first_cause(rt: HostRuntime) -> Result<(), Fail> {
     }
     assert!(rt; refused(bank.add_root(3), 12, 128));
     assert!(rt;
-        bank.root_count == 128
+        bank.roots.len() == 128
             && bank.roots[1].reads.is_empty()
             && bank.roots[127].reads.contains(0)
     );

@@ -17,11 +17,11 @@ pub fn refused(res: Result<(), TableFault>, number: u8, item: usize) -> bool {
 
 // Whether the bank is as `Diagrams::empty` makes it.
 pub fn untouched(bank: &Diagrams<'_>) -> bool {
-    bank.width == 1 && bank.used == 0 && bank.root_count == 0
+    bank.width == 1 && bank.used == 0 && bank.roots.is_empty()
 }
 
 // Four rows over three options. Node 2 wants option 2 and node 3 the opposite; node 4 lets option 1 choose between them,
-// and node 5 lets option 0 choose between nodes 2 and 4.
+// and node 5 lets option 0 choose between nodes 2 and 4. Other tests have them once more, since they share no crate for this.
 pub fn four_rows() -> [Row; 4] {
     [row(2, 0, 1), row(2, 1, 0), row(1, 2, 3), row(0, 2, 4)]
 }

@@ -16,7 +16,7 @@ fn takes_over_a_table(rt: HostRuntime) -> Result<(), Fail> {
     let mut bank = Diagrams::empty(&mut memory);
     assert!(rt; untouched(&bank));
     bank.open(3, &four_rows(), &[5, 4, 0, 1])?;
-    assert!(rt; bank.width == 3 && bank.used == 4 && bank.root_count == 4);
+    assert!(rt; bank.width == 3 && bank.used == 4 && bank.roots.len() == 4);
     let last = bank.rows[3];
     assert!(rt; last == row(0, 2, 4));
     assert!(rt; bank.roots[0].node == 5 && bank.roots[3].node == 1);
@@ -50,7 +50,7 @@ fn opens_once_more(rt: HostRuntime) -> Result<(), Fail> {
     let mut bank = Diagrams::empty(&mut memory);
     bank.open(3, &four_rows(), &[5])?;
     bank.open(128, &[], &[1])?;
-    assert!(rt; bank.width == 128 && bank.used == 0 && bank.root_count == 1);
+    assert!(rt; bank.width == 128 && bank.used == 0 && bank.roots.len() == 1);
     assert!(rt; bank.roots[0].node == 1 && bank.roots[0].reads.is_empty());
     Ok(())
 }
@@ -87,7 +87,7 @@ fn takes_128_roots_and_refuses_129(rt: HostRuntime) -> Result<(), Fail> {
     assert!(rt; refused(bank.open(3, &four_rows(), &too_many_roots(5)), 12, 128));
     assert!(rt; untouched(&bank));
     bank.open(3, &four_rows(), &all_roots(5))?;
-    assert!(rt; bank.root_count == 128 && bank.roots[127].node == 5);
+    assert!(rt; bank.roots.len() == 128 && bank.roots[127].node == 5);
     Ok(())
 }
 
@@ -143,7 +143,7 @@ fn a_refusal_keeps_what_was_open(rt: HostRuntime) -> Result<(), Fail> {
     let mut bank = Diagrams::empty(&mut memory);
     bank.open(3, &four_rows(), &[5])?;
     assert!(rt; refused(bank.open(2, &[row(0, 2, 0)], &[]), 13, 0));
-    assert!(rt; bank.width == 3 && bank.used == 4 && bank.root_count == 1);
+    assert!(rt; bank.width == 3 && bank.used == 4 && bank.roots.len() == 1);
     let first = bank.rows[0];
     assert!(rt;
         first == row(2, 0, 1) && bank.roots[0].node == 5 && bank.roots[0].reads.contains(0)

@@ -4,10 +4,9 @@ use clauses::table::Clauses;
 use diagram_bank::variants::variants;
 use diagrams::row::Row;
 use diagrams::table::Diagrams;
+use session::complete::MOST_STEPS;
 use session::completion::Verdict;
 use session::session::Session;
-
-const MOST_STEPS: u64 = 1 << 62;
 
 // The rule that every build meets (the root is the 1 end), over `width` options that are all open.
 fn show_all_builds(rt: &HostRuntime, width: usize) -> anyhow::Result<()> {
@@ -17,17 +16,17 @@ fn show_all_builds(rt: &HostRuntime, width: usize) -> anyhow::Result<()> {
         high: 0,
     }];
     let mut table = Diagrams::empty(&mut memory);
-    if table.open(width, &[], &[1]).is_err() {
-        return Err(anyhow!("the table of diagrams was refused"));
-    }
+    table
+        .open(width, &[], &[1])
+        .map_err(|_| anyhow!("the table of diagrams was refused"))?;
     let values = [2u8; 128];
     let mut column = [0u64; 2];
     match variants(&table, 0, &values, &mut column) {
         Ok(count) => println!(rt; "root 1 over {width} options: {count} variants")?,
-        Err(refusal) => {
-            let number = refusal.number();
-            println!(rt; "root 1 over {width} options: refused, {number}")?;
-        }
+        Err(refusal) => println!(rt;
+            "root 1 over {width} options: refused, {}",
+            refusal.number()
+        )?,
     }
     Ok(())
 }
@@ -35,15 +34,16 @@ fn show_all_builds(rt: &HostRuntime, width: usize) -> anyhow::Result<()> {
 // One option that must be taken and must be left out.
 fn show_contradiction(rt: &HostRuntime, budget: u64) -> anyhow::Result<()> {
     let mut table = Clauses::empty();
-    if table.open(1, &[&[1], &[0]]).is_err() {
-        return Err(anyhow!("the table of clauses was refused"));
-    }
+    table
+        .open(1, &[&[1], &[0]])
+        .map_err(|_| anyhow!("the table of clauses was refused"))?;
     let mut session = Session::new(table);
     let mut place = [2u8; 1];
     match session.complete(budget, &mut place) {
         Ok(completion) => {
             let steps = completion.steps;
-            let word = match completion.verdict {
+            // this program's words for a verdict; another says others, so they are no `Display`
+            let word = match completion.answer {
                 Verdict::Build => "a build",
                 Verdict::NoBuild => "none",
                 Verdict::Spent => "spent",
@@ -62,10 +62,10 @@ fn show_width(rt: &HostRuntime, width: usize) -> anyhow::Result<()> {
     let mut table = Clauses::empty();
     match table.open(width, &[&[1]]) {
         Ok(()) => println!(rt; "a table of {width} options: opened")?,
-        Err(fault) => {
-            let number = fault.cause.number();
-            println!(rt; "a table of {width} options: refused, {number}")?;
-        }
+        Err(fault) => println!(rt;
+            "a table of {width} options: refused, {}",
+            fault.cause.number()
+        )?,
     }
     Ok(())
 }

@@ -1,9 +1,7 @@
 -- A bound on the number that has been seen.
-use Rattle.std.specs.Prelude.{ℕ, Bool, true, nat_lt}
-use Rattle.fields.specs.declared.seen.Seen.{Seen}
-use Rattle.fields.specs.declared.seen.Seen.TheVariants.{Blank, Number, Off}
+use Rattle.std.specs.Prelude.{ℕ, Bool, true, Some, None, nat_lt}
+use Rattle.fields.specs.Reading.{Seen}
 
 abbrev pub seen_small : ℕ → Seen → Bool
-seen_small m Blank = true
-seen_small m (Number n) = nat_lt n m
-seen_small m Off = true
+seen_small m None = true
+seen_small m (Some n) = nat_lt n m

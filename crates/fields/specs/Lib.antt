@@ -1,3 +1,4 @@
 pub mod Field
 pub mod Reading
 pub mod Bounds
+pub mod Writing

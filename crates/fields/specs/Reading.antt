@@ -1,30 +1,28 @@
 -- Reading a field from the left.
 use Rattle.std.specs.Prelude.{◌≡◌, ℕ, ◌+◌, ◌-◌, ◌*◌, ◌<◌, Bool, cond, ◌&&◌, ◌↔◌, List, [], ◌∷◌, length, Some, None, Option, ◌==◌, nat_le, nat_lt}
-use Rattle.fields.specs.declared.seen.Seen.{Seen}
-use Rattle.fields.specs.declared.seen.Seen.TheVariants.{Blank, Number, Off}
+use Rattle.std.specs.Option.{option_and_then}
 use Rattle.fields.specs.Field.{field_of}
 
 abbrev pub is_digit : ℕ → Bool
 is_digit b = nat_le 48 b && nat_le b 57
 
--- one column more; after a 0 there is no room for another digit, since it would lead
-abbrev pub after : Seen → ℕ → Seen
-after Blank b = cond (b == 32) Blank (cond (is_digit b) (Number (b - 48)) Off)
-after (Number n) b = cond (is_digit b && nat_lt 0 n) (Number (10 * n + (b - 48))) Off
-after Off b = Off
+-- what has been seen of a field: the number of its digits so far, none where there were only spaces
+abbrev pub Seen : Type 0
+Seen = Option ℕ
 
-abbrev pub seen_from : Seen → List ℕ → Seen
-seen_from s [] = s
-seen_from s (b ∷ bs) = seen_from (after s b) bs
+-- one column more, or none where these columns begin no field; after a 0 there is no room for another digit, since it would lead
+abbrev pub after : Seen → ℕ → Option Seen
+after None b = cond (b == 32) (Some None) (cond (is_digit b) (Some (Some (b - 48))) None)
+after (Some n) b = cond (is_digit b && nat_lt 0 n) (Some (Some (10 * n + (b - 48)))) None
 
-abbrev pub number_seen : Seen → Option ℕ
-number_seen Blank = None
-number_seen (Number n) = Some n
-number_seen Off = None
+-- the number after these columns too, if all of them go on
+abbrev pub number_from : Seen → List ℕ → Option ℕ
+number_from s [] = s
+number_from s (b ∷ bs) = option_and_then (λ t. number_from t bs) (after s b)
 
 -- the number of a field, if the bytes are one
 unfoldable pub field_value : List ℕ → Option ℕ
-field_value bs = cond (length bs == 6) (number_seen (seen_from Blank bs)) None
+field_value bs = cond (length bs == 6) (number_from None bs) None
 
 -- bytes are read as a number exactly if they are its field
 abbrev pub FieldLaw : Type 0

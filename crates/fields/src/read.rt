@@ -1,33 +1,21 @@
 // Reading a field: column by column from the left.
-ghost use Rattle.std.specs.Prelude.{◌≡◌, ℕ, ◌+◌, ◌-◌, ◌*◌, ◌^◌, ◌<◌, ◌≤◌, Bool, true, false, length};
-ghost use Rattle.fields.specs.Reading.{after as after_of, seen_from, field_value, FieldLaw};
+ghost use Rattle.std.specs.Prelude.{◌≡◌, ℕ, ◌+◌, ◌-◌, ◌*◌, ◌^◌, ◌<◌, ◌≤◌, Bool, true, false, length, Some, None};
+ghost use Rattle.fields.specs.Reading.{after as after_of, number_from, field_value, FieldLaw};
 ghost use Rattle.fields.specs.Bounds.{seen_small};
 
-use crate::seen::Seen;
+// The number that the columns so far hold; none where they are only spaces.
+type Seen = Option<u32>;
 
-// One column more.
-fn after(seen: Seen, byte: u8) -> Seen
+// What has been seen one column later, where the columns can still begin a field.
+fn after(seen: Seen, byte: u8) -> Option<Seen>
     requires { seen_small 100000000 seen ≡ true }
     ensures { result ≡ after_of seen byte }
 {
     match seen {
-        Seen::Blank => {
-            if byte == b' ' {
-                Seen::Blank
-            } else if byte >= b'0' && byte <= b'9' {
-                Seen::Number((byte - b'0') as u32)
-            } else {
-                Seen::Off
-            }
-        }
-        Seen::Number(n) => {
-            if byte >= b'0' && byte <= b'9' && n > 0 {
-                Seen::Number(10 * n + (byte - b'0') as u32)
-            } else {
-                Seen::Off
-            }
-        }
-        Seen::Off => Seen::Off,
+        None if byte == b' ' => Some(None),
+        None if byte.is_ascii_digit() => Some(Some((byte - b'0') as u32)),
+        Some(n) if byte.is_ascii_digit() && n > 0 => Some(Some(10 * n + (byte - b'0') as u32)),
+        _ => None,
     }
 }
 
@@ -39,13 +27,9 @@ pub fn read_field(bytes: &[u8]) -> Option<u32>
     if bytes.len() != 6 {
         return None;
     }
-    let mut seen = Seen::Blank;
+    let mut seen = None;
     for byte in bytes {
-        seen = after(seen, *byte);
+        seen = after(seen, *byte)?;
     }
-    match seen {
-        Seen::Blank => None,
-        Seen::Number(n) => Some(n),
-        Seen::Off => None,
-    }
+    seen
 }

@@ -1,29 +1,40 @@
-// Writing a field: the last digit first, so that the spaces come where the number has ended.
-ghost use Rattle.std.specs.Prelude.{◌≡◌, ℕ, ◌+◌, ◌-◌, ◌*◌, ◌/◌, ◌%◌, ◌^◌, ◌<◌, ◌≤◌, Bool, true, false, ◌&&◌, List, length, if◌then◌else◌, ◌==◌, nat_eq, nat_lt};
-ghost use Rattle.fields.specs.Field.{column, field_of};
+// Writing a field: each column by its distance from the right.
+ghost use Rattle.std.specs.Prelude.{◌≡◌, ℕ, ◌+◌, ◌-◌, ◌*◌, ◌/◌, ◌%◌, ◌^◌, ◌<◌, ◌≤◌, Bool, true, false, ◌&&◌, List, length, MatchResult};
+ghost use Rattle.fields.specs.Field.{column as column_of, field_of};
+ghost use Rattle.fields.specs.Writing.{field_asked};
 
-// What stands `j` columns from the right, where `rest` is left of the number: a space once nothing is left.
-fn column_byte(rest: u32, j: usize) -> u8
-    ensures { result ≡ (if nat_eq rest 0 && nat_lt 0 j then 32 else 48 + rest % 10) }
+use crate::no_field::NoField;
+
+// Numbers below this have six digits at most.
+const SEVEN_DIGITS: u32 = 1000000;
+
+const COLUMNS: usize = 6;
+
+// What stands `j` columns from the right: a digit, or a space left of the number.
+fn column(number: u32, j: u32) -> u8
+    requires { j < 6 }
+    ensures { result ≡ column_of number j }
 {
-    if rest == 0 && j > 0 {
+    let unit = 10u32.pow(j);
+    if number < unit && j > 0 {
         return b' ';
     }
-    b'0' + (rest % 10) as u8
+    b'0' + (number / unit % 10) as u8
 }
 
-// The field of a number in a place of six bytes; false, and nothing written, where the place has another length or the number seven digits.
-pub fn write_field(number: u32, place: &mut [u8]) -> bool
-    ensures value { result ≡ (nat_lt number 1000000 && length place.old == 6) }
-    ensures after { place.new ≡ (if result then field_of number else place.old) }
+// Writes the field of a number into a place of six bytes. Nothing is written where the number has no field or the place another length.
+pub fn write_field(number: u32, place: &mut [u8]) -> Result<(), NoField>
+    ensures value { result ≡ field_asked number (length place.old) }
+    ensures after { MatchResult result (λ _. place.new ≡ field_of number) (λ _. place.new ≡ place.old) }
 {
-    if number >= 1000000 || place.len() != 6 {
-        return false;
+    if number >= SEVEN_DIGITS {
+        return Err(NoField::SevenDigits);
     }
-    let mut rest = number;
-    for j in 0..6 {
-        place[5 - j] = column_byte(rest, j);
-        rest /= 10;
+    if place.len() != COLUMNS {
+        return Err(NoField::OtherLength);
     }
-    true
+    for (i, byte) in place.iter_mut().enumerate() {
+        *byte = column(number, (5 - i) as u32);
+    }
+    Ok(())
 }

@@ -3,10 +3,10 @@ use Rattle.std.proofs.Common.{◌≡◌, ℕ, zero, suc, ◌<◌, ◌≤◌, tru
 use Rattle.std.proofs.lemmas.Bool.{and_parts, and_from, ltb-true, lt-ltb}
 use Rattle.groups.specs.Group.{all_below}
 
-pub below_at : (w : ℕ) (os : List ℕ) (k : ℕ) → all_below w os ≡ true → k < length os → get_or os k 0 < w
-below_at w [] k h l = absurd (omega arith)
-below_at w (o ∷ os) zero h l = ltb-true o w (and_parts (ltb o w) (all_below w os) h).0
-below_at w (o ∷ os) (suc k) h l = below_at w os k (and_parts (ltb o w) (all_below w os) h).1 (omega arith)
+pub below_at : (w : ℕ) (os : List ℕ) (k x : ℕ) → all_below w os ≡ true → k < length os → x ≡ get_or os k x → x < w
+below_at w [] k x h l e = absurd (omega arith)
+below_at w (o ∷ os) zero x h l e = let b = ltb-true o w (and_parts (ltb o w) (all_below w os) h).0 in omega arith
+below_at w (o ∷ os) (suc k) x h l e = below_at w os k x (and_parts (ltb o w) (all_below w os) h).1 (omega arith) e
 
 pub below_more : (v w : ℕ) (os : List ℕ) → v ≤ w → all_below v os ≡ true → all_below w os ≡ true
 below_more v w [] l h = refl

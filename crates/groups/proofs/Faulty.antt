@@ -8,6 +8,11 @@ use Rattle.groups.specs.Group.{Rule, Fair, no_rule, all_below, distinct}
 use Rattle.groups.specs.Faults.{has_cause, first_with, or_next, first_cause, misfits, causes, open_cause, add_cause, room_cause, replied}
 use Rattle.groups.proofs.Belows.{below_more}
 
+-- a call that refuses nothing has found no fault
+pub replied_none : (x : Option Located) → Ok tt ≡ replied x → x ≡ None
+replied_none None e = refl
+replied_none (Some f) e = absurd (let z : ◌≡◌ {A = ℕ} 0 1 = cc in omega arith)
+
 next_none : (c : TableCause) (x : Option ℕ) (n : Option Located) → or_next c x n ≡ None → (x ≡ None) × (n ≡ None)
 next_none c (Some i) n e = absurd (let z : ◌≡◌ {A = ℕ} 0 1 = cc in omega arith)
 next_none c None n e = (refl, e)

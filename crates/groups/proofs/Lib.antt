@@ -1,6 +1,8 @@
 pub mod Belows
+pub mod Tallies
 pub mod Texts
 pub mod Faulty
+pub mod Places
 pub mod Stored
 pub mod Filling
 pub mod Settling

@@ -1,7 +1,6 @@
 -- Why groups that are handed in are refused.
 use Rattle.std.specs.Prelude.{ℕ, ◌+◌, Bool, false, cond, not, ◌&&◌, ◌||◌, List, [], ◌∷◌, length, Some, None, Ok, Err, Option, Result, nat_le, nat_lt}
-use Rattle.bank.specs.Numbers.{Located, located_of, cause_number}
-use Rattle.bank.specs.declared.table_fault.TableFault.{TableFault}
+use Rattle.bank.specs.Numbers.{Located, cause_number}
 use Rattle.bank.specs.declared.table_fault.TableCause.{TableCause}
 use Rattle.bank.specs.declared.table_fault.TableCause.TheVariants.{BadWidth, TooMany, OptionTooLarge, ArrowNotDown, ChildNotLater, RootUnknown, GroupBounds, OptionTwice, BlockOutside}
 use Rattle.groups.specs.Group.{Rule, all_below, distinct}
@@ -52,11 +51,6 @@ add_cause w n g = first_cause w causes n (g ∷ [])
 -- why a table of n groups has no room for a group of k options, if it has none
 abbrev pub room_cause : ℕ → ℕ → Option Located
 room_cause n k = cond (nat_le 64 n || nat_lt 32 k) (Some (record { number = cause_number TooMany; item = n })) None
-
--- a fault that may be absent, by its number and item
-abbrev pub located_fault : Option TableFault → Option Located
-located_fault (Some f) = Some (located_of f)
-located_fault None = None
 
 -- what a call returns that refuses for the cause, if there is one
 abbrev pub replied : Option Located → Result (Unit {0}) Located

@@ -1,5 +1,6 @@
 -- Groups: at least so many and at most so many of some different options are taken.
-use Rattle.std.specs.Prelude.{◌≡◌, ℕ, ◌+◌, ◌≤◌, Bool, true, false, not, ◌&&◌, ◌||◌, List, [], ◌∷◌, length, ◌==◌, nat_le, nat_lt}
+use Rattle.std.specs.Prelude.{◌≡◌, ℕ, ◌+◌, ◌≤◌, Bool, true, not, ◌&&◌, List, [], ◌∷◌, length, ◌==◌, nat_le, nat_lt}
+use Rattle.std.specs.List.{list_any, list_all}
 use Rattle.builds.specs.Builds.{Build, bit}
 use Rattle.builds.specs.Values.{num}
 
@@ -14,13 +15,11 @@ group_meets lo hi options β = nat_le lo (taken options β) && nat_le (taken opt
 
 -- the option is one of the list
 abbrev pub among : List ℕ → ℕ → Bool
-among [] o = false
-among (p ∷ os) o = p == o || among os o
+among os o = list_any (λ p. p == o) os
 
 -- each option of the list is below w
 abbrev pub all_below : ℕ → List ℕ → Bool
-all_below w [] = true
-all_below w (o ∷ os) = nat_lt o w && all_below w os
+all_below w os = list_all (λ o. nat_lt o w) os
 
 -- no option stands twice in the list
 abbrev pub distinct : List ℕ → Bool

@@ -7,5 +7,6 @@ mod marking;
 mod opening;
 mod options;
 pub mod rules;
+mod storing;
 pub mod table;
 pub mod text;

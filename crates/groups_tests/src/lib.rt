@@ -11,10 +11,7 @@ mod tests {
 
     // Whether a table was refused for this cause at this item.
     fn refuses(opened: Result<(), TableFault>, number: u8, item: usize) -> bool {
-        match opened {
-            Ok(_) => false,
-            Err(fault) => fault.cause.number() == number && fault.item == item,
-        }
+        opened.is_err_and(|fault| fault.cause.number() == number && fault.item == item)
     }
 
     fn group(lo: u32, hi: u32, options: &[u32]) -> GroupText<'_> {
@@ -37,8 +34,8 @@ mod tests {
         assert!(rt; bank.width() == 1 && bank.count() == 0);
         assert!(rt; bank.open(128, &[group(0, 1, &[127])]).is_ok());
         assert!(rt; bank.width() == 128 && bank.count() == 1);
-        assert!(rt; refuses(bank.add(0, 1, &[128]), 15, 1));
-        assert!(rt; bank.add(0, 2, &[0, 127]).is_ok());
+        assert!(rt; refuses(bank.add(&group(0, 1, &[128])), 15, 1));
+        assert!(rt; bank.add(&group(0, 2, &[0, 127])).is_ok());
         assert!(rt; bank.width() == 128 && bank.count() == 2);
     }
 
@@ -51,7 +48,7 @@ mod tests {
         assert!(rt; bank.open(1, &[one; 64]).is_ok());
         assert!(rt; bank.count() == 64);
         assert!(rt; refuses(bank.room_for(0), 12, 64));
-        assert!(rt; refuses(bank.add(0, 1, &[0]), 12, 64));
+        assert!(rt; refuses(bank.add(&group(0, 1, &[0])), 12, 64));
         assert!(rt; bank.count() == 64);
     }
 
@@ -64,8 +61,8 @@ mod tests {
         ];
         let longer: &[u32] = &[0; 33];
         assert!(rt; bank.open(32, &[group(32, 32, longest)]).is_ok());
-        assert!(rt; bank.add(0, 0, longest).is_ok());
-        assert!(rt; refuses(bank.add(0, 1, longer), 12, 2));
+        assert!(rt; bank.add(&group(0, 0, longest)).is_ok());
+        assert!(rt; refuses(bank.add(&group(0, 1, longer)), 12, 2));
         assert!(rt;
             refuses(
                 bank.open(32, &[group(1, 0, &[40]), group(0, 1, longer)]),
@@ -81,9 +78,9 @@ mod tests {
     fn bounds(rt: HostRuntime) {
         let mut bank = Groups::empty();
         assert!(rt; bank.open(3, &[group(0, 0, &[]), group(1, 1, &[2])]).is_ok());
-        assert!(rt; refuses(bank.add(2, 1, &[0, 1, 2]), 17, 2));
-        assert!(rt; refuses(bank.add(0, 3, &[0, 1]), 17, 2));
-        assert!(rt; refuses(bank.add(0, 1, &[]), 17, 2));
+        assert!(rt; refuses(bank.add(&group(2, 1, &[0, 1, 2])), 17, 2));
+        assert!(rt; refuses(bank.add(&group(0, 3, &[0, 1])), 17, 2));
+        assert!(rt; refuses(bank.add(&group(0, 1, &[])), 17, 2));
         assert!(rt;
             refuses(
                 bank.open(3, &[group(0, 0, &[]), group(0, 4294967295, &[0])]),
@@ -119,7 +116,7 @@ mod tests {
             )
         );
         assert!(rt; bank.open(3, &[]).is_ok());
-        assert!(rt; refuses(bank.add(0, 1, &[1, 2, 1]), 18, 0));
+        assert!(rt; refuses(bank.add(&group(0, 1, &[1, 2, 1])), 18, 0));
     }
 
     #[test]

@@ -1,4 +1,4 @@
--- Parts of tables, as `mark_part` cuts and writes them.
+-- Parts of tables, as `Part::mark` cuts and writes them.
 use Rattle.std.proofs.Common.{◌≡◌, ℕ, ◌+◌, ◌-◌, ◌<◌, ◌≤◌, true, List, ◌++◌, length, take, drop, None, Ok, Err, sym, ap, ◌∙◌, arith, rules}
 use borrow.Rule.Slice.PartMut.{put_mid}
 use Rattle.std.proofs.lemmas.List.{places, same_lists, take-take, length-take, length-drop, length-append, drop_all, append-nil, drop_at, drop-drop, append_assoc, length-take-le, take_at}
@@ -46,7 +46,7 @@ module _ (s n w : ℕ) (values marks : List ℕ) (inside : s + n ≤ w) (long : 
         let d : drop w ((take s values ++ m) ++ drop (s + n) marks) ≡ drop w marks = drop-append-drop (s + n) marks (take s values ++ m) w inside l in
         e2 ∙ rw (e1, t, d, length_whole, front, size, rest) (simp append_assoc)
 
--- What `mark_part` does, over a bank of which `says` is what one rule says
+-- What `Part::mark` does, over a bank of which `says` is what one rule says
 
 module _ (s n w count rule : ℕ) (says : List ℕ → Said) (values marks : List ℕ)
     (inside : s + n ≤ w) (long : w ≤ length values) (room : w ≤ length marks) (known : rule < count) (small : up_to 2 (take w values) ≡ true)

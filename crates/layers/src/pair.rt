@@ -5,8 +5,8 @@ ghost use Rattle.layer_theory.specs.Layers.{pair_bank, pair_reading};
 ghost use Rattle.layer_theory.specs.Laws.{PlacedLaw, PairExactLaw};
 ghost use Rattle.layer_theory.proofs.Paired.{pair_duties, pair_local};
 
-use crate::part::mark_part;
-use bank::asked::refused;
+use crate::part::Part;
+use bank::asked::check_asked;
 use bank::refusal::{Answer, Refusal};
 use bank::rule_bank::RuleBank;
 use option_set::OptionSet;
@@ -45,31 +45,25 @@ impl<A: RuleBank, B: RuleBank> RuleBank for Pair<A, B> {
         (self.first.count() + self.second.count()).min(1024)
     }
 
-    // A bank may claim options that it does not have; the pair reads only those within the bank's own width.
+    // Two branches, since the two banks are of two types.
     fn reads(&self, rule: usize) -> OptionSet {
         let n = self.first.count();
         if rule < n {
-            self.first
-                .reads(rule)
-                .common(OptionSet::below(self.first.width()))
+            Part::at(&self.first, 0).reads(rule)
         } else {
-            self.second
-                .reads(rule - n)
-                .common(OptionSet::below(self.second.width()))
+            Part::at(&self.second, 0).reads(rule - n)
         }
     }
 
     // What is refused is decided by the pair's own width, also where the bank that has the rule is narrower.
     fn mark(&self, rule: usize, values: &[u8], marks: &mut [u8]) -> Result<Answer, Refusal> {
         let w = self.width();
-        if let Some(cause) = refused(w, self.count(), rule, values, marks.len()) {
-            return Err(cause);
-        }
+        check_asked(w, self.count(), rule, values, marks.len())?;
         let n = self.first.count();
         if rule < n {
-            Ok(mark_part(&self.first, 0, w, rule, values, marks))
+            Ok(Part::at(&self.first, 0).mark(w, rule, values, marks))
         } else {
-            Ok(mark_part(&self.second, 0, w, rule - n, values, marks))
+            Ok(Part::at(&self.second, 0).mark(w, rule - n, values, marks))
         }
     }
 }

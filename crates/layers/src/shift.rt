@@ -5,8 +5,8 @@ ghost use Rattle.layer_theory.specs.Layers.{shift_at, shift_bank, shift_reading}
 ghost use Rattle.layer_theory.specs.Laws.{PlacedLaw, ShiftExactLaw};
 ghost use Rattle.layer_theory.proofs.Shifted.{shift_duties, shift_local};
 
-use crate::part::mark_part;
-use bank::asked::refused;
+use crate::part::Part;
+use bank::asked::check_asked;
 use bank::refusal::{Answer, Refusal};
 use bank::rule_bank::RuleBank;
 use option_set::OptionSet;
@@ -54,17 +54,13 @@ impl<B: RuleBank> RuleBank for Shift<B> {
         self.bank.count()
     }
 
-    // A bank may claim options that it does not have; only those within its own width are moved.
     fn reads(&self, rule: usize) -> OptionSet {
-        let own = OptionSet::below(self.bank.width());
-        self.bank.reads(rule).common(own).shifted(self.start())
+        Part::at(&self.bank, self.start()).reads(rule)
     }
 
     fn mark(&self, rule: usize, values: &[u8], marks: &mut [u8]) -> Result<Answer, Refusal> {
         let w = self.width();
-        if let Some(cause) = refused(w, self.count(), rule, values, marks.len()) {
-            return Err(cause);
-        }
-        Ok(mark_part(&self.bank, self.start(), w, rule, values, marks))
+        check_asked(w, self.count(), rule, values, marks.len())?;
+        Ok(Part::at(&self.bank, self.start()).mark(w, rule, values, marks))
     }
 }

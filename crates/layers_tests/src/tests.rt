@@ -13,7 +13,7 @@ fn is_dead(reply: Result<Answer, Refusal>) -> bool {
     matches!(reply, Ok(Answer::Dead))
 }
 
-// The number of the refusal, or 0.
+// The number of the refusal, or 0; a number, since what a test expects is what dealers know.
 fn number_of(reply: Result<Answer, Refusal>) -> u8 {
     match reply {
         Ok(_) => 0,

@@ -4,7 +4,7 @@ ghost use Rattle.std.specs.Prelude.{◌≡◌, ◌≤◌, min, max};
 ghost use Rattle.bank.proofs.Exactness.{exact_duties};
 ghost use Rattle.layers_tests.specs.Wanting.{wants_meets, wants_bank, wants_reading, wants_local};
 
-use bank::asked::refused;
+use bank::asked::check_asked;
 use bank::refusal::{Answer, Refusal};
 use bank::rule_bank::RuleBank;
 use option_set::OptionSet;
@@ -51,9 +51,7 @@ impl RuleBank for Wants {
 
     fn mark(&self, rule: usize, values: &[u8], marks: &mut [u8]) -> Result<Answer, Refusal> {
         let w = self.width;
-        if let Some(cause) = refused(w, self.count, rule, values, marks.len()) {
-            return Err(cause);
-        }
+        check_asked(w, self.count, rule, values, marks.len())?;
         let wanted = rule % w;
         if values[wanted] == 0 {
             return Ok(Answer::Dead);

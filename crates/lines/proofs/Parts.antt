@@ -1,11 +1,11 @@
 -- The lines of a text, one line on and at its end, and that they are a parting of it.
-use Rattle.std.proofs.Common.{◌≡◌, ℕ, zero, suc, ◌+◌, ◌-◌, ◌<◌, ◌≤◌, true, false, eqb, ◌≢◌, List, [], ◌∷◌, length, get_or, take, drop, sym, refl, ap, ◌∙◌, inl, inr, arith}
+use Rattle.std.proofs.Common.{◌≡◌, ℕ, zero, suc, ◌+◌, ◌-◌, ◌<◌, ◌≤◌, true, false, eqb, cond, ◌≢◌, List, [], ◌∷◌, ◌++◌, length, get_or, take, drop, sym, refl, ap, ◌∙◌, inl, inr, add-one, arith}
 use Rattle.std.proofs.lemmas.Bool.{cond-true, cond-false, eq-eqb, ne_eqb, eqb-true, eqb-false, cases_Bool, both_ways}
-use Rattle.std.proofs.lemmas.List.{length-drop, get_or-drop, drop-drop, drop_all, take_rest}
+use Rattle.std.proofs.lemmas.List.{take_rest}
 use Rattle.lines.specs.Lines.{Line, put_byte, lines_of, text_of, Parted, LinesLaw}
 
 -- an LF after n bytes that are none
-pub line_closed : (bs : List ℕ) (n : ℕ) → n < length bs → get_or bs n 0 ≡ 10 → ((k : ℕ) → k < n → get_or bs k 0 ≢ 10) → lines_of bs ≡ record { bytes = take n bs; closed = true } ∷ lines_of (drop (suc n) bs)
+line_closed : (bs : List ℕ) (n : ℕ) → n < length bs → get_or bs n 0 ≡ 10 → ((k : ℕ) → k < n → get_or bs k 0 ≢ 10) → lines_of bs ≡ record { bytes = take n bs; closed = true } ∷ lines_of (drop (suc n) bs)
 unfolding lines_of
 line_closed [] n l e f = absurd (omega arith)
 line_closed (b ∷ bs) zero l e f = cond-true _ _ _ (eq-eqb b 10 e)
@@ -21,6 +21,17 @@ line_open b (c ∷ bs) f = cond-false _ _ _ (ne_eqb b 10 (f 0 (omega arith))) �
 pub line_rest : (bs : List ℕ) → 0 < length bs → ((k : ℕ) → k < length bs → get_or bs k 0 ≢ 10) → lines_of bs ≡ record { bytes = bs; closed = false } ∷ []
 line_rest [] l f = absurd (omega arith)
 line_rest (b ∷ bs) l f = line_open b bs f
+
+-- what is left after the LF
+pub line_cut : (bs : List ℕ) (n : ℕ) → n < length bs → get_or bs n 0 ≡ 10 → ((k : ℕ) → k < n → get_or bs k 0 ≢ 10) →
+    lines_of bs ≡ record { bytes = take n bs; closed = true } ∷ lines_of (take (length bs - (n + 1)) (drop (n + 1) bs))
+line_cut bs n l e f = line_closed bs n l e f ∙ ap (λ t. record { bytes = take n bs; closed = true } ∷ lines_of t) (ap (λ k. drop k bs) (sym (add-one n)) ∙ sym (take_rest bs (n + 1)))
+
+-- past the end
+pub line_past : (bs : List ℕ) → length bs ≡ 0 → lines_of bs ≡ []
+unfolding lines_of
+line_past [] e = refl
+line_past (b ∷ bs) e = absurd (omega arith)
 
 text_put : (b : ℕ) (ls : List Line) → text_of (put_byte b ls) ≡ b ∷ text_of ls
 text_put b [] = refl
@@ -50,23 +61,19 @@ lines_law (b ∷ bs) = elim (cases_Bool (eqb b 10)) [
       rw z (text_put b (lines_of bs) ∙ ap (λ x. b ∷ x) r.0, parted_put b (lines_of bs) (eqb-false b 10 h) r.1))
 ]
 
--- the same by places of the text
-pub closed_at : (text : List ℕ) (s i : ℕ) → s ≤ i → i < length text → get_or text i 0 ≡ 10 → ((k : ℕ) → s ≤ k → k < i → get_or text k 0 ≢ 10) → lines_of (drop s text) ≡ record { bytes = take (i - s) (drop s text); closed = true } ∷ lines_of (drop (i + 1) text)
-closed_at text s i h l e f =
-    let z : s + (i - s) ≡ i = omega arith in
-    let y : s + suc (i - s) ≡ i + 1 = omega arith in
-    line_closed (drop s text) (i - s) (rw length-drop (omega arith))
-    (get_or-drop s text (i - s) 0 ∙ ap (λ k. get_or text k 0) z ∙ e)
-    (λ k g q. f (s + k) (omega arith) (omega arith) (sym (get_or-drop s text k 0) ∙ q))
-    ∙ ap (λ t. record { bytes = take (i - s) (drop s text); closed = true } ∷ lines_of t) (drop-drop (suc (i - s)) s text ∙ ap (λ k. drop k text) y)
+-- a text has no more lines than bytes
+few_put : (b : ℕ) (ls : List Line) → length (put_byte b ls) ≤ suc (length ls)
+few_put b [] = omega arith
+few_put b (l ∷ ls) = omega arith
 
-pub past_end : (text : List ℕ) (s : ℕ) → length text ≤ s → lines_of (drop s text) ≡ []
+pub lines_few : (bs : List ℕ) → length (lines_of bs) ≤ length bs
 unfolding lines_of
-past_end text s l = ap lines_of (drop_all s text l)
+lines_few [] = omega arith
+lines_few (b ∷ bs) = elim (cases_Bool (eqb b 10)) [
+  | inl h ↦ (let r = lines_few bs in rw (cond-true (eqb b 10) (record { bytes = []; closed = true } ∷ lines_of bs) (put_byte b (lines_of bs)) h) (omega arith))
+  | inr h ↦ (let r = lines_few bs in let p = few_put b (lines_of bs) in rw (cond-false (eqb b 10) (record { bytes = []; closed = true } ∷ lines_of bs) (put_byte b (lines_of bs)) h) (omega arith))
+]
 
-pub open_at : (text : List ℕ) (s : ℕ) → s < length text → ((k : ℕ) → s ≤ k → k < length text → get_or text k 0 ≢ 10) → lines_of (drop s text) ≡ record { bytes = take (length text - s) (drop s text); closed = false } ∷ lines_of (drop (length text) text)
-open_at text s l f =
-    let a : 0 < length (drop s text) = rw length-drop (omega arith) in
-    let b : take (length text - s) (drop s text) ≡ drop s text = take_rest text s in
-    line_rest (drop s text) a (λ k g q. f (s + k) (omega arith) (let h : k < length text - s = rw length-drop at g in omega arith) (sym (get_or-drop s text k 0) ∙ q))
-    ∙ ap (λ t. record { bytes = t; closed = false } ∷ []) (sym b) ∙ ap (λ t. record { bytes = take (length text - s) (drop s text); closed = false } ∷ t) (sym (past_end text (length text) (omega arith)))
+-- a text is its first line and the rest
+pub first_and_rest : (bs rest : List ℕ) (l : Line) → lines_of bs ≡ l ∷ lines_of rest → bs ≡ l.bytes ++ (cond l.closed (10 ∷ []) [] ++ rest)
+first_and_rest bs rest l e = sym (lines_law bs).0 ∙ ap text_of e ∙ ap (λ t. l.bytes ++ (cond l.closed (10 ∷ []) [] ++ t)) (lines_law rest).0

@@ -1,2 +1,3 @@
 pub mod Lines
 pub mod Places
+pub mod Said

@@ -1,5 +1,6 @@
 // Parting a text into its lines, one at a time and without copying.
 #![tactic(auto)]
 
-pub mod next;
+pub mod iter;
+pub mod line;
 pub mod place;

@@ -1,5 +1,5 @@
 -- The lines of the listing. Bytes are codes: O 79, Z 90, B 66, F 70, LF 10.
-use Rattle.std.specs.Prelude.{◌≡◌, ℕ, ◌+◌, ◌*◌, Bool, cond, ◌&&◌, List, [], ◌∷◌, ◌++◌, map, length, drop, nat_le, nat_lt}
+use Rattle.std.specs.Prelude.{◌≡◌, ℕ, ◌+◌, ◌*◌, Bool, cond, ◌&&◌, List, [], ◌∷◌, ◌++◌, map, length, drop, Some, None, Option, nat_le, nat_lt}
 use Rattle.builds.specs.Builds.{Build}
 use Rattle.builds.specs.Values.{num}
 use Rattle.fields.specs.Field.{field_of}
@@ -46,6 +46,6 @@ fault_fits f old = nat_lt f.line 1000000 && nat_le 26 (length old)
 abbrev pub written : Bool → List ℕ → List ℕ → List ℕ
 written fits lines old = cond fits (lines ++ drop (length lines) old) old
 
--- how many bytes that were
-abbrev pub written_count : Bool → List ℕ → ℕ
-written_count fits lines = cond fits (length lines) 0
+-- how many bytes that were, if they had room
+abbrev pub written_count : Bool → List ℕ → Option ℕ
+written_count fits lines = cond fits (Some (length lines)) None

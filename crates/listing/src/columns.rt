@@ -1,4 +1,5 @@
 // Bytes and fields at a place of the listing.
+// The listing and the place stay two parameters: a writer that borrows the listing would make no call plainer, and each contract longer.
 ghost use Rattle.std.specs.Prelude.{◌≡◌, ℕ, ◌+◌, ◌<◌, ◌≤◌, List, [], ◌∷◌, ◌++◌, length};
 ghost use Rattle.fields.specs.Field.{field_of};
 ghost use Rattle.listing.specs.Places.{put_at};
@@ -19,6 +20,7 @@ pub(crate) fn put_field(listing: &mut [u8], at: usize, number: u32)
     ensures { listing.new ≡ put_at at (field_of number) listing.old }
 {
     let end = at + 6;
+    // six bytes, and six digits at most: never refused
     let _ = write_field(number, &mut listing[at..end]);
 }
 

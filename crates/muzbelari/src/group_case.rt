@@ -11,8 +11,8 @@ pub fn show_groups(rt: &HostRuntime) -> anyhow::Result<()> {
         hi: 2,
         options: &[0, 1, 2],
     };
-    if table.open(3, &[two]).is_err() {
-        return Err(anyhow!("the table of groups was refused"));
-    }
+    table
+        .open(3, &[two])
+        .map_err(|_| anyhow!("the table of groups was refused"))?;
     show_rule(rt, "group 2 to 2 of options 0, 1, 2", &table, 0, &[0, 2, 2])
 }

@@ -21,12 +21,11 @@ fn show_completion<B: RuleBank + Drop>(rt: &HostRuntime, title: &str, b: B) -> a
     let width = b.width().min(128);
     let mut session = Session::new(b);
     let mut place = [2u8; 128];
-    let completion = match session.complete(BUDGET, &mut place) {
-        Ok(completion) => completion,
-        Err(_) => return Err(anyhow!("the completion was refused")),
-    };
+    let completion = session
+        .complete(BUDGET, &mut place)
+        .map_err(|_| anyhow!("the completion was refused"))?;
     let steps = completion.steps;
-    match completion.verdict {
+    match completion.answer {
         Verdict::Build => {
             println!(rt; "  a build, after {steps} steps")?;
             show_values(rt, "build ", &place[0..width])
@@ -36,11 +35,11 @@ fn show_completion<B: RuleBank + Drop>(rt: &HostRuntime, title: &str, b: B) -> a
     }
 }
 
-// The answer of forced, in words.
+// The answer of forced, in words. Not its `Display`: these are this program's words, and another says others.
 fn forced_word(answer: Force) -> &'static str {
     match answer {
-        Force::Zero => "must be left out",
-        Force::One => "must be taken",
+        Force::Only(false) => "must be left out",
+        Force::Only(true) => "must be taken",
         Force::Open => "is open",
         Force::NoBuild => "nothing can be built",
         Force::Spent => "the budget is spent",
@@ -51,18 +50,16 @@ fn forced_word(answer: Force) -> &'static str {
 fn show_forced<B: RuleBank + Drop>(rt: &HostRuntime, b: B) -> anyhow::Result<()> {
     println!(rt; "the example table, option 2 picked 0")?;
     let mut session = Session::new(b);
-    if session.pick(2, 0).is_err() {
-        return Err(anyhow!("the pick was refused"));
-    }
-    match session.forced(0, BUDGET) {
-        Ok(forced) => {
-            let word = forced_word(forced.answer);
-            let steps = forced.steps;
-            println!(rt; "  option 0: {word}, after {steps} steps")?;
-            Ok(())
-        }
-        Err(_) => Err(anyhow!("the question was refused")),
-    }
+    session
+        .pick(2, 0)
+        .map_err(|_| anyhow!("the pick was refused"))?;
+    let forced = session
+        .forced(0, BUDGET)
+        .map_err(|_| anyhow!("the question was refused"))?;
+    let word = forced_word(forced.answer);
+    let steps = forced.steps;
+    println!(rt; "  option 0: {word}, after {steps} steps")?;
+    Ok(())
 }
 
 pub fn show_sessions(rt: &HostRuntime) -> anyhow::Result<()> {

@@ -1,13 +1,19 @@
 // Says what a rule of a bank answers, in words a person can read.
 use bank::refusal::Answer;
 use bank::rule_bank::RuleBank;
+use std::fmt;
 
-// A value in words.
-fn word(value: u8) -> &'static str {
-    match value {
-        0 => "left out",
-        1 => "taken",
-        _ => "open",
+// One place of a values table, printed in words.
+#[derive(Clone, Copy, Drop)]
+struct Value(u8);
+
+impl fmt::Display for Value {
+    fn fmt<W: fmt::Write>(&self, f: &mut fmt::Formatter<W>) -> fmt::Result {
+        f.write_str(match self.0 {
+            0 => "left out",
+            1 => "taken",
+            _ => "open",
+        })
     }
 }
 
@@ -15,8 +21,7 @@ fn word(value: u8) -> &'static str {
 pub fn show_values(rt: &HostRuntime, title: &str, values: &[u8]) -> anyhow::Result<()> {
     print!(rt; "  {title}")?;
     for (option, value) in values.iter().enumerate() {
-        let text = word(*value);
-        print!(rt; "  option {option} {text}")?;
+        print!(rt; "  option {option} {}", Value(*value))?;
     }
     println!(rt; "")?;
     Ok(())
@@ -35,17 +40,12 @@ pub fn show_rule<B: RuleBank>(
     let mut marks = [2u8; 128];
     let room = b.width().min(128);
     match b.mark(rule, values, &mut marks) {
-        Ok(answer) => match answer {
-            Answer::Dead => println!(rt; "  dead: no build that fits the values meets it")?,
-            Answer::Live => {
-                println!(rt; "  live")?;
-                show_values(rt, "marks ", &marks[0..room])?;
-            }
-        },
-        Err(refusal) => {
-            let number = refusal.number();
-            println!(rt; "  refused: {number}")?;
+        Ok(Answer::Dead) => println!(rt; "  dead: no build that fits the values meets it")?,
+        Ok(Answer::Live) => {
+            println!(rt; "  live")?;
+            show_values(rt, "marks ", &marks[..room])?;
         }
+        Err(refusal) => println!(rt; "  refused: {}", refusal.number())?,
     }
     Ok(())
 }

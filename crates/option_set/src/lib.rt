@@ -3,10 +3,29 @@
 #![tactic(auto)]
 
 ghost use Rattle.std.specs.Prelude.{◌≡◌, ℕ, ◌-◌, ◌<◌, false, not, ◌&&◌, ◌||◌, ◌==◌, nat_le, nat_lt};
+ghost use Rattle.std.specs.List.{list_any};
 ghost use Rattle.option_set.specs.Sets.{member, some_member};
 
+// What is of one option, as a literal is.
+pub trait OfOption {
+    ghost option: { Self → ℕ };
+
+    // The option that it is of.
+    fn of_option(&self) -> usize
+        ensures { result ≡ option self.now };
+}
+
+// An option in a byte is of itself.
+impl OfOption for u8 {
+    ghost option = { λ byte. byte };
+
+    fn of_option(&self) -> usize {
+        *self as usize
+    }
+}
+
 // The options 0 to 127 that are in the set.
-#[derive(Clone, Copy, PartialEq, Eq, Drop)]
+#[derive(Clone, Copy, PartialEq, Eq, Default, Drop)]
 pub struct OptionSet {
     members: u128,
 }
@@ -17,6 +36,13 @@ impl OptionSet {
         ensures { (o : ℕ) → member result.members o ≡ false }
     {
         OptionSet { members: 0 }
+    }
+
+    // The options that the items are of; those from 128 on are left out.
+    pub fn of<T: OfOption>(items: &[T]) -> OptionSet
+        ensures { (o : ℕ) → o < 128 → member result.members o ≡ list_any (λ x. o == T.option x) items.now }
+    {
+        items.iter().fold(OptionSet::empty(), |set, item| set.insert(item.of_option()))
     }
 
     // The options below `n`; all of them from 128 on.
@@ -32,13 +58,11 @@ impl OptionSet {
     }
 
     // Whether the option is in the set; no option from 128 on is.
+    #[tactic(auto, using(crate::proofs::Digits::member_read))]
     pub fn contains(self, option: usize) -> bool
         ensures { result ≡ (nat_lt option 128 && member self.members option) }
     {
-        if option >= 128 {
-            return false;
-        }
-        (self.members >> option) & 1 == 1
+        option < 128 && (self.members >> option) & 1 == 1
     }
 
     // The set with one option more; an option from 128 on is left out.

@@ -1,7 +1,8 @@
 -- A fault's line has a number that a field can show: a text has no more lines than bytes.
-use Rattle.std.proofs.Common.{◌≡◌, ℕ, ◌+◌, ◌^◌, ◌<◌, ◌≤◌, true, eqb, ltb, List, [], ◌∷◌, length, Ok, Err, Result, subst, arith}
+use Rattle.std.proofs.Common.{◌≡◌, ℕ, ◌+◌, ◌^◌, ◌<◌, ◌≤◌, eqb, ltb, List, [], ◌∷◌, length, Ok, Err, Result, subst, arith}
 use Rattle.std.proofs.lemmas.Bool.{cond_both, ltb-false}
-use Rattle.lines.specs.Lines.{Line, put_byte, lines_of}
+use Rattle.lines.specs.Lines.{Line, lines_of}
+use Rattle.lines.proofs.Parts.{lines_few}
 use Rattle.texts.specs.Faults.{Layered, Fault, at_line, line_fault}
 use Rattle.texts.specs.Fields.{carried}
 use Rattle.rule_text.specs.Catalogue.{Catalogue, no_catalogue}
@@ -10,17 +11,6 @@ use Rattle.search_theory.specs.Runs.{no_picks}
 use Rattle.pick_text.specs.PickLines.{read_pick, read_picks, picks_text}
 use Rattle.pick_text.specs.Orders.{ordered, with_picks, order_of}
 use Rattle.order_theory.specs.Orders.{both_texts}
-
-put_length : (b : ℕ) (ls : List Line) → length (put_byte b ls) ≤ length ls + 1
-put_length b [] = omega arith
-put_length b (l ∷ ls) = omega arith
-
-pub lines_few : (bs : List ℕ) → length (lines_of bs) ≤ length bs
-unfolding lines_of
-lines_few [] = omega arith
-lines_few (b ∷ bs) =
-    let h = lines_few bs in
-    cond_both (eqb b 10) (record { bytes = []; closed = true } ∷ lines_of bs) (put_byte b (lines_of bs)) (λ ls. length ls ≤ length (b ∷ bs)) (λ _. omega arith) (λ _. let p = put_length b (lines_of bs) in omega arith)
 
 -- a fault is at most at this line
 abbrev UpTo : {X : Type 0} → ℕ → Result X Fault → Type 0

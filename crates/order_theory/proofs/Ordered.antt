@@ -3,11 +3,9 @@ use Rattle.std.proofs.Common.{◌≡◌, ℕ, ◌^◌, ◌≤◌, ltb, List, Ok,
 use Rattle.std.proofs.lemmas.Bool.{cases_Bool, cond-true, ltb-false}
 use Rattle.builds.specs.Builds.{first_build}
 use Rattle.bank.specs.Banks.{Bank}
-use Rattle.diagrams.specs.declared.table.Diagrams.{Diagrams}
-use Rattle.clauses.specs.declared.table.Clauses.{Clauses}
-use Rattle.groups.specs.declared.table.Groups.{Groups}
 use Rattle.search_theory.specs.Orders.{fulfils, open_options}
 use Rattle.search_theory.specs.Held.{PicksOk}
+use Rattle.rule_text.specs.declared.tables.Tables.{Tables}
 use Rattle.rule_text.specs.Catalogue.{catalogue_bank}
 use Rattle.rule_text.specs.RuleLines.{rules_until}
 use Rattle.rule_text.specs.View.{Held}
@@ -27,18 +25,18 @@ budget_read rules picks budget o e = elim (cases_Bool (ltb (2 ^ 62) budget)) [
   | inr h ↦ ltb-false (2 ^ 62) budget h
 ]
 
-module _ (rules picks : List ℕ) (budget : ℕ) (d : Diagrams) (c : Clauses) (g : Groups) (first : ℕ) (ps : List ℕ)
-    (held : Held d c g (rules_until 2048 rules)) (block : first ≡ (rules_until 2048 rules).first) (picked : ps ≡ picks_until (rules_until 2048 rules).width picks)
+module _ (rules picks : List ℕ) (budget : ℕ) (t : Tables) (first : ℕ) (ps : List ℕ)
+    (held : Held t (rules_until 2048 rules)) (block : first ≡ (rules_until 2048 rules).first) (picked : ps ≡ picks_until (rules_until 2048 rules).width picks)
     (read : Ok (record { catalogue = rules_until 2048 rules; picks = ps }) ≡ order_of rules picks budget) where
   -- the bank of the tables, and the order
   abbrev M : Bank
-  M = tables_bank first d c g
+  M = tables_bank first t
 
   abbrev o : Order
   o = record { catalogue = rules_until 2048 rules; picks = ps }
 
   alike : Alike M (catalogue_bank o.catalogue)
-  alike = subst (λ n. Alike (tables_bank n d c g) (catalogue_bank o.catalogue)) (sym block) (tables_alike d c g o.catalogue held)
+  alike = subst (λ n. Alike (tables_bank n t) (catalogue_bank o.catalogue)) (sym block) (tables_alike t o.catalogue held)
 
   width : M.width ≡ o.catalogue.width
   width = alike.width ∙ fitting_width o.catalogue (order_fits rules picks o (order_read rules picks budget o (sym read)))

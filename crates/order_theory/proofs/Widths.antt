@@ -118,9 +118,6 @@ unfolding read_rules
 rules_fit room n k [] h = cond_both (eqb k.stage 0) (Err (at_line 1 1 (line_fault 21))) (Ok k) FitsIf (λ _. tt) (λ _. h)
 rules_fit room n k (l ∷ ls) h = carried_fits n (read_rule room k l) (λ d. read_rules room (n + 1) d ls) (rule_fits room k l h) (λ m q. rules_fit room (n + 1) m ls q)
 
-pub text_fits : (room : ℕ) (text : List ℕ) (d : Catalogue) → rules_text room text ≡ Ok d → Fitting d
-text_fits room text d e = subst FitsIf e (rules_fit room 1 no_catalogue (lines_of text) (record { some = omega arith; ends = omega arith; wide = omega arith; narrow = omega arith }))
-
 pub fitting_width : (k : Catalogue) → Fitting k → (catalogue_bank k).width ≡ k.width
 fitting_width k h = let a = h.some in let b = h.ends in let c = h.narrow in omega arith
 

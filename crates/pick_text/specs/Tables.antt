@@ -3,9 +3,8 @@ use Rattle.std.specs.Prelude.{ℕ, List, Ok, Err, Result}
 use Rattle.bank.specs.declared.refusal.Refusal.{Refusal}
 use Rattle.bank.specs.Numbers.{number_of}
 use Rattle.texts.specs.declared.faults.Cause.{Cause}
-use Rattle.texts.specs.declared.faults.TextFault.{TextFault}
 use Rattle.texts.specs.Faults.{Layered, Fault, session_fault}
-use Rattle.texts.specs.Causes.{layered, fault_of}
+use Rattle.texts.specs.Causes.{TextFault, layered, fault_of}
 
 -- the table, or the fault by its numbers: of one pick, of a line, of a text
 abbrev pub pick_said : Result (Unit {0}) Refusal → List ℕ → Result (List ℕ) Layered

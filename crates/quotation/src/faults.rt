@@ -1,27 +1,24 @@
 // Says on standard error what is wrong with an order: the fault in words, and the line that has it.
-use crate::words::cause_words;
 use quote::faulty::{faulty_line, first_fault};
 use std::io::Write;
 use texts::faults::{Text, TextFault};
 
-fn file_name(text: Text) -> &'static str {
+fn file_name(text: Option<Text>) -> &'static str {
     match text {
-        Text::Neither => "the call",
-        Text::Rules => "rules.txt",
-        Text::Picks => "picks.txt",
+        None => "the call",
+        Some(Text::Rules) => "rules.txt",
+        Some(Text::Picks) => "picks.txt",
     }
 }
 
-// One line: where the fault is, its number and what it means. Line 0 is no line.
+// One line: where the fault is, its number and what it means.
 fn say_fault(rt: &HostRuntime, fault: TextFault) -> anyhow::Result<()> {
     let name = file_name(fault.text);
-    let line = fault.line;
-    let number = fault.cause.number();
-    let words = cause_words(fault.cause);
-    if line == 0 {
-        eprintln!(rt; "quotation: fault {number} in {name}: {words}")?;
-    } else {
-        eprintln!(rt; "quotation: fault {number} in {name}, line {line}: {words}")?;
+    let cause = fault.cause;
+    let number = cause.number();
+    match fault.line {
+        None => eprintln!(rt; "quotation: fault {number} in {name}: {cause}")?,
+        Some(line) => eprintln!(rt; "quotation: fault {number} in {name}, line {line}: {cause}")?,
     }
     Ok(())
 }

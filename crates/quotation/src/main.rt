@@ -3,11 +3,10 @@
 #![tactic(auto)]
 
 mod faults;
-mod words;
 
 use anyhow::anyhow;
 use faults::explain;
-use quote::quote::quote;
+use quote::quote::{LISTING_ROOM, quote};
 use std::fs;
 
 const BUDGET: u64 = 1000000;
@@ -23,7 +22,7 @@ fn read_text(rt: &HostRuntime, name: &str) -> anyhow::Result<Vec<u8>> {
 fn main(rt: HostRuntime) -> anyhow::Result<()> {
     let rules = read_text(&rt, "rules.txt")?;
     let picks = read_text(&rt, "picks.txt")?;
-    let mut listing = [0u8; 1792];
+    let mut listing = [0u8; LISTING_ROOM];
     let written = quote(&rules, &picks, BUDGET, &mut listing);
     if let Some(lines) = listing.get(0..written) {
         rt.write_all(lines)?;

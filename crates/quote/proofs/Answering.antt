@@ -3,6 +3,7 @@ use Rattle.std.proofs.Common.{◌≡◌, ℕ, ◌+◌, ◌-◌, ◌*◌, ◌^◌
 use lib.ListN.{length-map}
 use Rattle.std.proofs.lemmas.Bool.{cond-true, cond-false, le-leb, le-ltb, and_from}
 use Rattle.std.proofs.lemmas.List.{take_at}
+use Rattle.std.specs.Option.{unwrap_or}
 use Rattle.builds.specs.Builds.{Build, first_build}
 use Rattle.builds.specs.Values.{num, bits}
 use Rattle.builds.proofs.Firsts.{first→}
@@ -12,26 +13,23 @@ use Rattle.search_theory.specs.Trails.{start}
 use Rattle.search_theory.specs.Searches.{quest, End, built, nothing, out, Search}
 use Rattle.search_theory.specs.Calls.{spent, State, refusal, complete, said, Completes, Refuses, Does}
 use Rattle.search_theory.proofs.Law.{search_bound}
-use Rattle.session.specs.declared.completion.Verdict.TheVariants.{Build as Found, NoBuild, Spent}
-use Rattle.session.specs.declared.completion.Verdict.{Verdict}
+use Rattle.search.specs.declared.verdict.Verdict.TheVariants.{Build as Found, NoBuild, Spent}
+use Rattle.search.specs.declared.verdict.Verdict.{Verdict}
+use Rattle.search.specs.Standing.{end_by}
 use Rattle.session.specs.declared.session.Session.{Session}
-use Rattle.session.specs.View.{state_of, Stands}
-use Rattle.session.specs.Completing.{end_by, Settles, VerdictRight}
+use Rattle.session.specs.View.{state_of}
+use Rattle.session.specs.Completing.{Settles, VerdictRight}
 use Rattle.listing.specs.Listing.{value_lines, build_lines, none_line, spent_line, build_fits, written, written_count, BuildLaw}
 use Rattle.quote.specs.Quoting.{found_lines, Tells, Written}
 
--- a new session over b that was told its picks still stands
-pub told_stands : {X : Type 0} (meaning : X → Bank) (b : X) (n s : Session X) → n.bank ≡ b → Stands (meaning b) n → s.bank ≡ n.bank → (Stands (meaning n.bank) n → Stands (meaning n.bank) s) → Stands (meaning s.bank) s
-told_stands meaning b n s e h f k = subst (λ x. Stands (meaning x) s) (sym f) (k (subst (λ x. Stands (meaning x) n) (sym e) h))
-
 -- what the session says, which was told this bank and these picks
-module _ {X : Type 0} (meaning : X → Bank) (b : X) (ps : List ℕ) (s : Session X) (bank : s.bank ≡ b) (picks : s.picks ≡ ps) where
-  pub settled : (v w : Verdict) (before after : List ℕ) → v ≡ w → VerdictRight (meaning s.bank).width (first_build (meaning s.bank).width (fulfils (meaning s.bank) s.picks)) v before after →
+module _ {X : Type 0} {g : _} (meaning : X → Bank) (b : X) (ps : List ℕ) (s : Session X g) (bank : s.bank ≡ b) (picks : (state_of s).picks ≡ ps) where
+  pub settled : (v w : Verdict) (before after : List ℕ) → v ≡ w → VerdictRight (meaning s.bank).width (first_build (meaning s.bank).width (fulfils (meaning s.bank) (state_of s).picks)) v before after →
       VerdictRight (meaning b).width (first_build (meaning b).width (fulfils (meaning b) ps)) w before after
   settled v w before after e h =
       subst (λ u. VerdictRight (meaning b).width (first_build (meaning b).width (fulfils (meaning b) ps)) u before after) e
       (subst (λ qs. VerdictRight (meaning b).width (first_build (meaning b).width (fulfils (meaning b) qs)) v before after) picks
-      (subst (λ x. VerdictRight (meaning x).width (first_build (meaning x).width (fulfils (meaning x) s.picks)) v before after) bank h))
+      (subst (λ x. VerdictRight (meaning x).width (first_build (meaning x).width (fulfils (meaning x) (state_of s).picks)) v before after) bank h))
 
   pub spent_does : (v : Verdict) (budget room steps : ℕ) (place : List ℕ) (s' : State) → v ≡ Spent → room ≡ 128 → Does (meaning s.bank) (state_of s) (complete budget room) (said (end_by v (bits (take (meaning s.bank).width place))) steps) s' →
       Does (meaning b) (state_of s) (complete budget 128) (spent steps) s'
@@ -41,9 +39,9 @@ module _ {X : Type 0} (meaning : X → Bank) (b : X) (ps : List ℕ) (s : Sessio
       (subst (λ u. Does (meaning s.bank) (state_of s) (complete budget room) (said (end_by u (bits (take (meaning s.bank).width place))) steps) s') e h))
 
 -- lines that have room
-pub put_lines : (Says : List ℕ → Type 0) (old lines : List ℕ) (fits : Bool) (n : ℕ) (new : List ℕ) → fits ≡ true → Says lines → n ≡ written_count fits lines → new ≡ written fits lines old → Written Says old n new
+pub put_lines : (Says : List ℕ → Type 0) (old lines : List ℕ) (fits : Bool) (n : ℕ) (new : List ℕ) → fits ≡ true → Says lines → n ≡ unwrap_or (written_count fits lines) 0 → new ≡ written fits lines old → Written Says old n new
 put_lines Says old lines fits n new f s a b =
-    record { lines = lines; says = s; count = a ∙ cond-true fits (length lines) 0 f; listing = b ∙ cond-true fits (lines ++ drop (length lines) old) old f }
+    record { lines = lines; says = s; count = a ∙ ap (λ o. unwrap_or o 0) (cond-true fits (Some (length lines)) None f); listing = b ∙ cond-true fits (lines ++ drop (length lines) old) old f }
 
 module _ (B : Bank) (ps : List ℕ) (budget : ℕ) (old : List ℕ) (narrow : B.width ≤ 128) (room : 1792 ≤ length old) where
   abbrev found : Option Build
@@ -54,7 +52,7 @@ module _ (B : Bank) (ps : List ℕ) (budget : ℕ) (old : List ℕ) (narrow : B.
 
   -- a build: the place holds it, and its values give its lines
   pub build_told : (before after : List ℕ) (n : ℕ) (new : List ℕ) → Settles B.width found Found before after → BuildLaw →
-      n ≡ written_count (build_fits (take B.width after) old) (value_lines 0 (take B.width after)) → new ≡ written (build_fits (take B.width after) old) (value_lines 0 (take B.width after)) old →
+      n ≡ unwrap_or (written_count (build_fits (take B.width after) old) (value_lines 0 (take B.width after))) 0 → new ≡ written (build_fits (take B.width after) old) (value_lines 0 (take B.width after)) old →
       Written (Tells found f budget) old n new
   build_told before after n new s law a b = go found refl s
     where
@@ -75,7 +73,7 @@ module _ (B : Bank) (ps : List ℕ) (budget : ℕ) (old : List ℕ) (narrow : B.
 
   -- none
   pub none_told : (before after : List ℕ) (n : ℕ) (new : List ℕ) → Settles B.width found NoBuild before after →
-      n ≡ written_count (leb 2 (length old)) none_line → new ≡ written (leb 2 (length old)) none_line old → Written (Tells found f budget) old n new
+      n ≡ unwrap_or (written_count (leb 2 (length old)) none_line) 0 → new ≡ written (leb 2 (length old)) none_line old → Written (Tells found f budget) old n new
   none_told before after n new s a b = go found refl s
     where
       go : (x : Option Build) → found ≡ x → Settles B.width x NoBuild before after → Written (Tells found f budget) old n new
@@ -84,7 +82,7 @@ module _ (B : Bank) (ps : List ℕ) (budget : ℕ) (old : List ℕ) (narrow : B.
 
   -- spent: the search made as many steps as the budget has and needed one more
   pub spent_told : (s s' : State) (steps n : ℕ) (new : List ℕ) → budget ≤ 2 ^ 62 → s.picks ≡ ps → Does B s (complete budget 128) (spent steps) s' →
-      n ≡ written_count (leb 2 (length old)) spent_line → new ≡ written (leb 2 (length old)) spent_line old → Written (Tells found f budget) old n new
+      n ≡ unwrap_or (written_count (leb 2 (length old)) spent_line) 0 → new ≡ written (leb 2 (length old)) spent_line old → Written (Tells found f budget) old n new
   spent_told s s' steps n new small same does a b =
       put_lines (Tells found f budget) old spent_line (leb 2 (length old)) n new (le-leb 2 (length old) (omega arith)) (inr (refl, few)) a b
     where

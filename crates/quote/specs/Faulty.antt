@@ -1,9 +1,8 @@
 -- The fault of an order, and the line that is at fault.
 use Rattle.std.specs.Prelude.{ℕ, zero, suc, ◌-◌, Bool, true, false, List, [], length, take, drop, Some, None, Ok, Err, Option, Result}
 use Rattle.lines.specs.declared.place.LinePlace.{LinePlace}
-use Rattle.texts.specs.declared.faults.TextFault.{TextFault}
 use Rattle.texts.specs.Faults.{Fault}
-use Rattle.texts.specs.Causes.{fault_of, text_number}
+use Rattle.texts.specs.Causes.{TextFault, fault_of, text_number}
 use Rattle.texts.specs.Places.{place_of}
 use Rattle.pick_text.specs.Orders.{Order}
 use Rattle.quote.specs.declared.faulty_line.FaultyLine.{FaultyLine}

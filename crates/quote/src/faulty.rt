@@ -6,10 +6,8 @@ ghost use Rattle.quote.specs.Faulty.{fault_told, fault_in, line_told, line_in, p
 use crate::faulty_line::FaultyLine;
 use crate::faulty_place::FaultyPlace;
 use crate::read::read_order;
-use crate::tables::{no_picks, no_rows};
-use clauses::table::Clauses;
-use diagrams::table::Diagrams;
-use groups::table::Groups;
+use crate::tables::no_rows;
+use rule_text::tables::Tables;
 use texts::faults::{Text, TextFault};
 use texts::line_place::line_place;
 
@@ -18,50 +16,28 @@ pub fn first_fault(rules: &[u8], picks: &[u8], budget: u64) -> Option<TextFault>
     ensures { fault_told result ≡ fault_in (order_of rules.now picks.now budget) }
 {
     let mut memory = no_rows();
-    let mut diagrams = Diagrams::empty(&mut memory);
-    let mut clauses = Clauses::empty();
-    let mut groups = Groups::empty();
-    let mut picked = no_picks();
-    match read_order(
-        rules,
-        picks,
-        budget,
-        &mut diagrams,
-        &mut clauses,
-        &mut groups,
-        &mut picked,
-    ) {
-        Ok(_) => None,
-        Err(fault) => Some(fault),
-    }
+    let mut tables = Tables::empty(&mut memory);
+    read_order(rules, picks, budget, &mut tables).err()
 }
 
 // The faulty line without its LF, with its number and the place of its first byte in its text; none where no line is at fault.
 pub fn faulty_line<'a>(rules: &'a [u8], picks: &'a [u8], budget: u64) -> Option<FaultyLine<'a>>
     ensures { line_told result ≡ (line_in (order_of rules.now picks.now budget) rules.now picks.now) }
 {
-    let fault = match first_fault(rules, picks, budget) {
-        Some(fault) => fault,
-        None => return None,
-    };
-    let text = match fault.text {
-        Text::Neither => return None,
+    let fault = first_fault(rules, picks, budget)?;
+    let text = fault.text?;
+    let number = fault.line?;
+    let bytes = match text {
         Text::Rules => rules,
         Text::Picks => picks,
     };
-    match line_place(text, fault.line) {
-        Some(place) => {
-            let start = place.start;
-            let end = place.end;
-            Some(FaultyLine {
-                bytes: &text[start..end],
-                text: fault.text,
-                number: fault.line,
-                start,
-            })
-        }
-        None => None,
-    }
+    let place = line_place(bytes, number)?;
+    Some(FaultyLine {
+        bytes: &bytes[place.start..place.end],
+        text,
+        number,
+        start: place.start,
+    })
 }
 
 // The same for C: whether there is a faulty line, and where it stands; the place handed in stays as it was where there is none.

@@ -4,21 +4,19 @@ ghost use Rattle.quote.specs.Quoting.{Quoted};
 
 use crate::answer::answer;
 use crate::read::read_order;
-use crate::tables::{no_picks, no_rows};
-use clauses::table::Clauses;
+use crate::tables::no_rows;
 use diagram_bank::rules::DiagramRules;
-use diagrams::table::Diagrams;
-use groups::table::Groups;
 use layers::pair::Pair;
 use layers::shift::Shift;
 use lent::Lent;
 use listing::write::write_fault;
+use rule_text::tables::Tables;
 
 // A listing has room for the lines of 128 options, whatever the order.
-const LISTING_ROOM: usize = 1792;
+pub const LISTING_ROOM: usize = 1792;
 
 // Reads the rules and the picks, and writes the first build that they allow, that there is none, that the budget ran out,
-// or the first fault. Says how many bytes it wrote; with too little room that is 0.
+// or the first fault. Says how many bytes it wrote; with too little room that is 0, and no `Option`: C makes this call.
 pub fn quote(rules: &[u8], picks: &[u8], budget: u64, listing: &mut [u8]) -> usize
     ensures quoted { Quoted rules.now picks.now budget listing.old result listing.new }
     ensures width { WidthLaw }
@@ -27,34 +25,30 @@ pub fn quote(rules: &[u8], picks: &[u8], budget: u64, listing: &mut [u8]) -> usi
         return 0;
     }
     let mut memory = no_rows();
-    let mut diagrams = Diagrams::empty(&mut memory);
-    let mut clauses = Clauses::empty();
-    let mut groups = Groups::empty();
-    let mut picked = no_picks();
-    match read_order(
-        rules,
-        picks,
-        budget,
-        &mut diagrams,
-        &mut clauses,
-        &mut groups,
-        &mut picked,
-    ) {
-        Err(fault) => write_fault(listing, fault),
-        Ok(frame) => {
+    let mut tables = Tables::empty(&mut memory);
+    match read_order(rules, picks, budget, &mut tables) {
+        // the listing has room for every line
+        Err(fault) => write_fault(listing, fault).unwrap_or(0),
+        Ok(order) => {
             let moved = Shift {
-                bank: DiagramRules { table: &diagrams },
-                by: frame.first,
+                bank: DiagramRules {
+                    table: &tables.diagrams,
+                },
+                by: order.first,
             };
             let others = Pair {
-                first: Lent { bank: &clauses },
-                second: Lent { bank: &groups },
+                first: Lent {
+                    bank: &tables.clauses,
+                },
+                second: Lent {
+                    bank: &tables.groups,
+                },
             };
             let bank = Pair {
                 first: moved,
                 second: others,
             };
-            answer(bank, &picked, budget, listing)
+            answer(bank, &order.picks, budget, listing).unwrap_or(0)
         }
     }
 }

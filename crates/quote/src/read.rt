@@ -1,34 +1,31 @@
 // Reading a whole order. What concerns the call as a whole is checked first, then the rules line by line, then the picks.
-ghost use Rattle.std.specs.Prelude.{◌≡◌, IfOk};
+ghost use Rattle.std.specs.Prelude.{◌≡◌, IfOk, Some, None};
 ghost use Rattle.diagrams.specs.Causes.{room_of};
 ghost use Rattle.rule_text.specs.RuleLines.{rules_until};
 ghost use Rattle.pick_text.specs.Orders.{order_of};
 ghost use Rattle.order_theory.specs.Orders.{both_texts};
 ghost use Rattle.quote.specs.Reading.{order_said, Ready, if_whole};
 
+use crate::order::Order;
 use bank::refusal::Refusal;
-use clauses::table::Clauses;
-use diagrams::table::Diagrams;
-use groups::table::Groups;
 use pick_text::picks_text::read_picks;
-use rule_text::frame::Frame;
 use rule_text::rules_text::read_rules;
+use rule_text::tables::Tables;
+use session::complete::MOST_STEPS;
 use texts::faults::{Cause, LineFault, Text, TextFault};
 
-// The greatest budget, and the longest texts.
-const MOST_STEPS: u64 = 1 << 62;
-
+// The longest texts.
 const LONGEST_RULES: usize = 49152;
 
 const LONGEST_PICKS: usize = 4096;
 
 // A text that is too long has this fault, at no line.
 fn too_long(text: Text) -> TextFault
-    ensures { result ≡ record { text = text; line = 0; cause = Cause.Line LineFault.TooLong } }
+    ensures { result ≡ record { text = Some text; line = None; cause = Cause.Line LineFault.TooLong } }
 {
     TextFault {
-        text,
-        line: 0,
+        text: Some(text),
+        line: None,
         cause: Cause::Line(LineFault::TooLong),
     }
 }
@@ -39,8 +36,8 @@ fn whole(rules: &[u8], picks: &[u8], budget: u64) -> Result<(), TextFault>
 {
     if budget > MOST_STEPS {
         return Err(TextFault {
-            text: Text::Neither,
-            line: 0,
+            text: None,
+            line: None,
             cause: Cause::Session(Refusal::BudgetTooLarge),
         });
     }
@@ -53,38 +50,32 @@ fn whole(rules: &[u8], picks: &[u8], budget: u64) -> Result<(), TextFault>
     Ok(())
 }
 
-// The rules go into the three tables and the picks into theirs.
-fn read_texts(
-    rules: &[u8],
-    picks: &[u8],
-    diagrams: &mut Diagrams<'_>,
-    clauses: &mut Clauses,
-    groups: &mut Groups,
-    picked: &mut [u8; 128],
-) -> Result<Frame, TextFault>
-    requires { room_of diagrams.old.rows.now ≡ 2048 }
-    ensures answer { order_said result (rules_until 2048 rules.now) picked.new ≡ both_texts rules.now picks.now }
-    ensures ready { IfOk result (λ frame. Ready rules.now picks.now diagrams.new clauses.new groups.new frame.first picked.new) }
+// The rules go into the three tables, their block and the picks into the order.
+fn read_texts(rules: &[u8], picks: &[u8], tables: &mut Tables<'_>) -> Result<Order, TextFault>
+    requires { room_of tables.old.diagrams.rows.now ≡ 2048 }
+    ensures answer { order_said result (rules_until 2048 rules.now) ≡ both_texts rules.now picks.now }
+    ensures ready { IfOk result (λ order. Ready rules.now picks.now tables.new order) }
 {
-    let frame = read_rules(rules, diagrams, clauses, groups)?;
-    read_picks(picks, frame.width, picked)?;
-    Ok(frame)
+    let frame = read_rules(rules, tables)?;
+    let mut picked = [None; 128];
+    read_picks(picks, frame.width, &mut picked)?;
+    Ok(Order {
+        first: frame.first,
+        picks: picked,
+    })
 }
 
-// Reads an order: the width and the block of its rules, which stand in the tables then as its picks do, or its first fault.
+// Reads an order, whose rules stand in the tables then, or its first fault.
 pub(crate) fn read_order(
     rules: &[u8],
     picks: &[u8],
     budget: u64,
-    diagrams: &mut Diagrams<'_>,
-    clauses: &mut Clauses,
-    groups: &mut Groups,
-    picked: &mut [u8; 128],
-) -> Result<Frame, TextFault>
-    requires { room_of diagrams.old.rows.now ≡ 2048 }
-    ensures answer { order_said result (rules_until 2048 rules.now) picked.new ≡ order_of rules.now picks.now budget }
-    ensures ready { IfOk result (λ frame. Ready rules.now picks.now diagrams.new clauses.new groups.new frame.first picked.new) }
+    tables: &mut Tables<'_>,
+) -> Result<Order, TextFault>
+    requires { room_of tables.old.diagrams.rows.now ≡ 2048 }
+    ensures answer { order_said result (rules_until 2048 rules.now) ≡ order_of rules.now picks.now budget }
+    ensures ready { IfOk result (λ order. Ready rules.now picks.now tables.new order) }
 {
     whole(rules, picks, budget)?;
-    read_texts(rules, picks, diagrams, clauses, groups, picked)
+    read_texts(rules, picks, tables)
 }

@@ -3,7 +3,7 @@ ghost use Rattle.std.specs.Prelude.{◌≡◌, length};
 
 use diagrams::row::Row;
 
-// As many rows as a text may have.
+// As many rows as a text may have. The caller makes the table over it, since a table cannot leave the function that holds its rows.
 pub(crate) fn no_rows() -> [Row; 2048]
     ensures { length result ≡ 2048 }
 {
@@ -12,11 +12,4 @@ pub(crate) fn no_rows() -> [Row; 2048]
         low: 0,
         high: 0,
     }; 2048]
-}
-
-// No option is picked.
-pub(crate) fn no_picks() -> [u8; 128]
-    ensures { length result ≡ 128 }
-{
-    [2; 128]
 }

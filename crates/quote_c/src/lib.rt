@@ -1,4 +1,5 @@
 // The calls for C (include/muzbelari.h): each is the library's call, with its clauses. Byte strings come as pointer and length.
+// C finds a call by its own name, so each stands here once more, and answers by a count or a flag and a place.
 #![tactic(auto)]
 
 ghost use Rattle.std.specs.Prelude.{◌≡◌};

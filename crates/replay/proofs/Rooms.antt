@@ -1,14 +1,16 @@
 -- The place that a replay hands to a completion: it has room for 128 values at most.
-use Rattle.std.proofs.Common.{◌≡◌, ℕ, ◌-◌, ◌^◌, ◌≤◌, min, Bool, true, false, cond, ltb, leb, List, ◌++◌, length, take, Some, None, Ok, Err, Option, Result, sym, refl, ap, ◌∙◌, subst, inl, inr, true≢false, arith}
+use Rattle.std.proofs.Common.{◌≡◌, ℕ, ◌^◌, ◌≤◌, min, Bool, true, false, cond, ltb, leb, List, ◌++◌, length, take, Some, None, Ok, Err, Option, Result, sym, refl, ap, ◌∙◌, subst, inl, inr, true≢false, arith}
 use Rattle.std.proofs.lemmas.Bool.{le-leb, lt-leb, leb-true, cases_lt}
 use Rattle.std.proofs.lemmas.List.{take-append-le, length-take-le}
 use Rattle.builds.specs.Values.{bits}
 use Rattle.bank.specs.Banks.{Bank}
 use Rattle.bank.specs.declared.refusal.Refusal.{Refusal}
 use Rattle.search_theory.specs.Calls.{complete, continue, Reply, said, State, refusal, Refuses, Does}
-use Rattle.session.specs.declared.completion.Completion.{Completion}
-use Rattle.session.specs.Replies.{cause_of}
-use Rattle.session.specs.Completing.{end_by, completion_reply}
+use Rattle.search.specs.declared.verdict.Verdict.{Verdict}
+use Rattle.search.specs.declared.verdict.Counted.{Counted}
+use Rattle.search.specs.Standing.{end_by}
+use Rattle.bank.specs.Asked.{cause_of}
+use Rattle.session.specs.Completing.{completion_reply}
 
 -- more room than 128 is as good as 128
 room_same : (W room : ℕ) → W ≤ 128 → leb W (min room 128) ≡ leb W room
@@ -53,27 +55,27 @@ continue_fits W budget room f e = go (ltb (2 ^ 62) budget) f (leb W room) refl e
     go false false b h e = absurd (true≢false (cc))
 
 -- the reply reads only the places that were handed over
-wider : (W : ℕ) (r : Result Completion Refusal) (place rest : List ℕ) → (cause_of r ≡ None → W ≤ length place) → completion_reply W r (place ++ rest) ≡ completion_reply W r place
-wider W (Ok c) place rest h = ap (λ p. said (end_by c.verdict (bits p)) c.steps) (take-append-le W place rest (h refl))
+wider : (W : ℕ) (r : Result (Counted Verdict) Refusal) (place rest : List ℕ) → (cause_of r ≡ None → W ≤ length place) → completion_reply W r (place ++ rest) ≡ completion_reply W r place
+wider W (Ok c) place rest h = ap (λ p. said (end_by c.answer (bits p)) c.steps) (take-append-le W place rest (h refl))
 wider W (Err e) place rest h = refl
 
 -- a completion handed the first places of a blank one, as many as its room says, up to 128
-module _ (B : Bank) (narrow : B.width ≤ 128) (s s' : State) (budget room k : ℕ) (blank place rest : List ℕ) (result : Result Completion Refusal) (r : Reply)
-    (long : length blank ≡ 128) (handed : k ≡ min room 128) (kept : length place ≡ length (take (k - 0) blank)) (told : r ≡ completion_reply B.width result (place ++ rest)) where
-  sized : length (take (k - 0) blank) ≡ min room 128
-  sized = length-take-le (k - 0) blank (omega arith) ∙ omega arith
+module _ (B : Bank) (narrow : B.width ≤ 128) (s s' : State) (budget room k : ℕ) (blank place rest : List ℕ) (result : Result (Counted Verdict) Refusal) (r : Reply)
+    (long : length blank ≡ 128) (handed : k ≡ min room 128) (kept : length place ≡ length (take k blank)) (told : r ≡ completion_reply B.width result (place ++ rest)) where
+  sized : length (take k blank) ≡ min room 128
+  sized = length-take-le k blank (omega arith) ∙ omega arith
 
-  same : (cause_of result ≡ None → B.width ≤ length (take (k - 0) blank)) → completion_reply B.width result place ≡ r
+  same : (cause_of result ≡ None → B.width ≤ length (take k blank)) → completion_reply B.width result place ≡ r
   same h = sym (wider B.width result place rest (λ n. omega (arith, h n))) ∙ sym told
 
-  pub complete_handed : cause_of result ≡ refusal B.width s (complete budget (length (take (k - 0) blank))) → Does B s (complete budget (length (take (k - 0) blank))) (completion_reply B.width result place) s' → Does B s (complete budget room) r s'
+  pub complete_handed : cause_of result ≡ refusal B.width s (complete budget (length (take k blank))) → Does B s (complete budget (length (take k blank))) (completion_reply B.width result place) s' → Does B s (complete budget room) r s'
   complete_handed e D =
       complete_room B narrow s s' budget room r
       (subst (λ n. Does B s (complete budget n) r s') sized
-      (subst (λ x. Does B s (complete budget (length (take (k - 0) blank))) x s') (same (λ n. complete_fits B.width budget (length (take (k - 0) blank)) (sym e ∙ n))) D))
+      (subst (λ x. Does B s (complete budget (length (take k blank))) x s') (same (λ n. complete_fits B.width budget (length (take k blank)) (sym e ∙ n))) D))
 
-  pub continue_handed : cause_of result ≡ refusal B.width s (continue budget (length (take (k - 0) blank))) → Does B s (continue budget (length (take (k - 0) blank))) (completion_reply B.width result place) s' → Does B s (continue budget room) r s'
+  pub continue_handed : cause_of result ≡ refusal B.width s (continue budget (length (take k blank))) → Does B s (continue budget (length (take k blank))) (completion_reply B.width result place) s' → Does B s (continue budget room) r s'
   continue_handed e D =
       continue_room B narrow s s' budget room r
       (subst (λ n. Does B s (continue budget n) r s') sized
-      (subst (λ x. Does B s (continue budget (length (take (k - 0) blank))) x s') (same (λ n. continue_fits B.width budget (length (take (k - 0) blank)) s.searching (sym e ∙ n))) D))
+      (subst (λ x. Does B s (continue budget (length (take k blank))) x s') (same (λ n. continue_fits B.width budget (length (take k blank)) s.searching (sym e ∙ n))) D))

@@ -1,9 +1,10 @@
 // Performs a list of calls on a new session over a bank, and notes the replies.
 ghost use Rattle.std.specs.Prelude.{◌≡◌, ℕ, ◌≤◌, length, drop, if◌then◌else◌, Some, None, MatchResult, nat_le};
-ghost use Rattle.search_theory.specs.Calls.{Does, complete as complete_call, continue as continue_call};
+ghost use Rattle.search_theory.specs.Calls.{Does};
 ghost use Rattle.search_theory.specs.Law.{AnswersRight, Finishes, SameAnswers};
-ghost use Rattle.session.specs.View.{state_of, Stands};
-ghost use Rattle.session.specs.Replies.{cause_of, done_of};
+ghost use Rattle.session.specs.View.{state_of};
+ghost use Rattle.bank.specs.Asked.{cause_of};
+ghost use Rattle.session.specs.Replies.{done_of};
 ghost use Rattle.session.specs.Completing.{completion_reply};
 ghost use Rattle.session.specs.Forcing.{forced_reply};
 ghost use Rattle.replay.specs.Replies.{call_of, reply_of};
@@ -32,7 +33,7 @@ fn completed(res: Result<Completion, Refusal>, place: [u8; 128]) -> Reply
     ensures { (W : ℕ) → reply_of W result ≡ completion_reply W res place }
 {
     match res {
-        Ok(completion) => match completion.verdict {
+        Ok(completion) => match completion.answer {
             Verdict::Build => Reply::Build(place, completion.steps),
             Verdict::NoBuild => Reply::NoBuild(completion.steps),
             Verdict::Spent => Reply::Spent(completion.steps),
@@ -47,8 +48,7 @@ fn told(res: Result<Forced, Refusal>) -> Reply
 {
     match res {
         Ok(forced) => match forced.answer {
-            Force::Zero => Reply::Only(false, forced.steps),
-            Force::One => Reply::Only(true, forced.steps),
+            Force::Only(value) => Reply::Only(value, forced.steps),
             Force::Open => Reply::Open(forced.steps),
             Force::NoBuild => Reply::NoBuild(forced.steps),
             Force::Spent => Reply::Spent(forced.steps),
@@ -57,48 +57,24 @@ fn told(res: Result<Forced, Refusal>) -> Reply
     }
 }
 
-// A place for a build.
-fn blank() -> [u8; 128]
-    ensures { length result ≡ 128 }
-{
-    [0; 128]
-}
-
-// Completes into a place of its own. No bank has more than 128 options, so more room than that is as good as 128.
-fn complete<B: RuleBank>(session: &mut Session<B>, budget: u64, room: usize) -> Reply
-    ensures does { Stands (B.meaning session.old.bank) session.old → Does (B.meaning session.old.bank) (state_of session.old) (complete_call budget room) (reply_of (B.meaning session.old.bank).width result) (state_of session.new) }
-    ensures kept { Stands (B.meaning session.old.bank) session.old → Stands (B.meaning session.old.bank) session.new }
-    ensures bank { session.new.bank ≡ session.old.bank }
-{
-    let mut place = blank();
-    let handed = room.min(128);
-    let result = session.complete(budget, &mut place[0..handed]);
-    completed(result, place)
-}
-
-// Goes on with the open search in the same way.
-fn resume<B: RuleBank>(session: &mut Session<B>, budget: u64, room: usize) -> Reply
-    ensures does { Stands (B.meaning session.old.bank) session.old → Does (B.meaning session.old.bank) (state_of session.old) (continue_call budget room) (reply_of (B.meaning session.old.bank).width result) (state_of session.new) }
-    ensures kept { Stands (B.meaning session.old.bank) session.old → Stands (B.meaning session.old.bank) session.new }
-    ensures bank { session.new.bank ≡ session.old.bank }
-{
-    let mut place = blank();
-    let handed = room.min(128);
-    let result = session.resume(budget, &mut place[0..handed]);
-    completed(result, place)
-}
-
-// Performs one call.
+// Performs one call. No bank has more than 128 options, so a place of 128 is as good for a completion as one with more room.
 fn perform<B: RuleBank>(session: &mut Session<B>, call: Call) -> Reply
-    ensures does { Stands (B.meaning session.old.bank) session.old → Does (B.meaning session.old.bank) (state_of session.old) (call_of call) (reply_of (B.meaning session.old.bank).width result) (state_of session.new) }
-    ensures kept { Stands (B.meaning session.old.bank) session.old → Stands (B.meaning session.old.bank) session.new }
+    ensures does { Does (B.meaning session.old.bank) (state_of session.old) (call_of call) (reply_of (B.meaning session.old.bank).width result) (state_of session.new) }
     ensures bank { session.new.bank ≡ session.old.bank }
 {
+    let mut place = [0; 128];
+    // a match: the calls are a list that the caller hands in, and a run is a list of such calls
     match call {
         Call::Pick { option, value } => done(session.pick(option, value)),
         Call::Release { option } => done(session.release(option)),
-        Call::Complete { budget, room } => complete(session, budget, room),
-        Call::Resume { budget, room } => resume(session, budget, room),
+        Call::Complete { budget, room } => {
+            let result = session.complete(budget, &mut place[..room.min(128)]);
+            completed(result, place)
+        }
+        Call::Resume { budget, room } => {
+            let result = session.resume(budget, &mut place[..room.min(128)]);
+            completed(result, place)
+        }
         Call::Forced { option, budget } => told(session.forced(option, budget)),
         Call::Forget => {
             session.forget();
@@ -123,8 +99,9 @@ pub fn replay<B: RuleBank + Drop>(
         return Err(Refusal::ShortPlace);
     }
     let mut session = Session::new(bank);
-    for i in 0..calls.len() {
-        replies[i] = perform(&mut session, calls[i]);
+    // by index: of a loop over `replies.iter_mut().zip(calls)` a proof does not know what it wrote into the slice
+    for (i, call) in calls.iter().enumerate() {
+        replies[i] = perform(&mut session, *call);
     }
     Ok(())
 }

@@ -1,7 +1,8 @@
 // What a session replies to a call.
 use bank::refusal::Refusal;
 
-// A build stands in the first places, as many as there are options; the number is the steps.
+// A build stands in the first places, as many as there are options, of a place of fixed size, since nothing allocates; the number
+// is the steps.
 #[derive(Clone, Copy, Drop)]
 pub enum Reply {
     Refused(Refusal),

@@ -1,7 +1,6 @@
 pub mod Openings
 pub mod Lending
 pub mod RowFronts
-pub mod LineSteps
 pub mod TableSteps
 pub mod KindSteps
 pub mod Reading

@@ -1,9 +1,8 @@
 -- A table without rules is refused for its width alone.
-use Rattle.std.proofs.Common.{◌≡◌, ℕ, ◌≤◌, true, false, ◌&&◌, leb, ◌⊎◌, [], Some, None, Ok, Option, refl, inl, inr, arith}
+use Rattle.std.proofs.Common.{◌≡◌, ℕ, ◌≤◌, true, false, ◌&&◌, leb, ◌⊎◌, [], Ok, refl, inl, inr, arith}
 use Rattle.std.proofs.lemmas.Bool.{cases_lt, and_from, and_left, and_right, or_left, or_right, or_from, cond-true, lt-leb, le-leb, lt-ltb, le-ltb, eq-eqb, ne_eqb, cases_Bool, cases_eq}
-use Rattle.bank.specs.Numbers.{Located}
 use Rattle.diagrams.specs.Causes.{first, refused_at, and_then, width_bad, sizes_cause, rows_cause, roots_cause, open_cause as diagrams_cause}
-use Rattle.clauses.specs.Opening.{open_cause as clauses_cause, opened, or_kept}
+use Rattle.clauses.specs.Opening.{open_cause as clauses_cause, opened}
 use Rattle.groups.specs.Faults.{open_cause as groups_cause, replied}
 use Rattle.rule_text.specs.Opened.{width_cause}
 
@@ -30,11 +29,6 @@ no_clauses w = elim (cases_Bool (leb 1 w && leb w 128)) [ inl h ↦ rw h refl | 
 pub no_groups : (w : ℕ) → replied (groups_cause w []) ≡ width_cause w
 unfolding groups_cause
 no_groups w = elim (cases_Bool (leb 1 w && leb w 128)) [ inl h ↦ rw h refl | inr h ↦ rw h refl ]
-
--- what is not refused stands
-pub stands_new : {X : Type 0} (o : Option Located) (old new : X) (x : Unit {0}) → Ok x ≡ opened o → or_kept o old new ≡ new
-stands_new (Some f) old new x e = absurd (let z : ◌≡◌ {A = ℕ} 0 1 = cc in omega arith)
-stands_new None old new x e = refl
 
 pub width_passes : (w : ℕ) → 1 ≤ w → w ≤ 128 → width_cause w ≡ Ok tt
 width_passes w a b = cond-true _ _ _ (and_from _ _ (le-leb 1 w a) (le-leb w 128 b))

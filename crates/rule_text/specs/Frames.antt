@@ -3,8 +3,8 @@ use Rattle.std.specs.Prelude.{Some, None, Ok, Err, Option, Result}
 use Rattle.texts.specs.declared.faults.LineFault.TheVariants.{Letter}
 use Rattle.texts.specs.declared.faults.Cause.TheVariants.{Line}
 use Rattle.texts.specs.declared.faults.Text.TheVariants.{Rules}
-use Rattle.texts.specs.declared.faults.TextFault.{TextFault}
 use Rattle.texts.specs.Faults.{Fault}
+use Rattle.texts.specs.Causes.{TextFault}
 use Rattle.rule_text.specs.declared.frame.Frame.{Frame}
 use Rattle.rule_text.specs.declared.kind.Kind.{Kind}
 use Rattle.rule_text.specs.declared.progress.Progress.{Progress}
@@ -22,7 +22,7 @@ begun = record { last = None; width = 1; first = 0 }
 -- after the last line; a text without lines has no letter at line 1
 abbrev pub finished_with : Option Kind → Frame → Result Frame TextFault
 finished_with (Some kind) frame = Ok frame
-finished_with None frame = Err (record { text = Rules; line = 1; cause = Line Letter })
+finished_with None frame = Err (record { text = Some Rules; line = Some 1; cause = Line Letter })
 
 abbrev pub finished : Progress → Result Frame TextFault
 finished p = finished_with p.last (record { width = p.width; first = p.first })

@@ -10,6 +10,7 @@ use Rattle.groups.specs.View.{rules_of as groups_of, Holds}
 use Rattle.texts.specs.declared.faults.Cause.{Cause}
 use Rattle.texts.specs.Faults.{Layered}
 use Rattle.texts.specs.Causes.{layered}
+use Rattle.rule_text.specs.declared.tables.Tables.{Tables}
 use Rattle.rule_text.specs.declared.progress.Progress.{Progress}
 use Rattle.rule_text.specs.Kinds.{stage_of}
 use Rattle.rule_text.specs.Catalogue.{Catalogue}
@@ -19,7 +20,7 @@ abbrev pub rows_in : Diagrams → List Row
 rows_in d = take d.used d.rows.now
 
 abbrev pub roots_in : Diagrams → List ℕ
-roots_in d = root_nodes d.roots d.root_count
+roots_in d = root_nodes d.roots.items
 
 -- the same catalogue at another stage
 abbrev pub staged : ℕ → Catalogue → Catalogue
@@ -33,7 +34,7 @@ with_diagrams k d =
 
 abbrev pub with_clauses : Catalogue → Clauses → Catalogue
 with_clauses k c =
-    record { stage = k.stage; width = c.width; first = k.first; size = k.size; rows = k.rows; roots = k.roots; clauses = clauses_of c.count c.clauses; groups = k.groups }
+    record { stage = k.stage; width = c.width; first = k.first; size = k.size; rows = k.rows; roots = k.roots; clauses = clauses_of c.clauses; groups = k.groups }
 
 abbrev pub with_groups : Catalogue → Groups → Catalogue
 with_groups k g =
@@ -45,29 +46,29 @@ with_block k p d =
     record { stage = k.stage; width = p.width; first = p.first; size = d.width; rows = rows_in d; roots = roots_in d; clauses = k.clauses; groups = k.groups }
 
 -- the catalogue read so far
-abbrev pub catalogue_of : Progress → Diagrams → Clauses → Groups → Catalogue
-catalogue_of p d c g =
-    record { stage = stage_of p.last; width = p.width; first = p.first; size = d.width; rows = rows_in d; roots = roots_in d; clauses = clauses_of c.count c.clauses; groups = groups_of g }
+abbrev pub catalogue_of : Progress → Tables → Catalogue
+catalogue_of p t =
+    record {
+      stage = stage_of p.last;
+      width = p.width;
+      first = p.first;
+      size = t.diagrams.width;
+      rows = rows_in t.diagrams;
+      roots = roots_in t.diagrams;
+      clauses = clauses_of t.clauses.clauses;
+      groups = groups_of t.groups;
+    }
 
 -- what a line gave: the catalogue, or its fault by its numbers
 abbrev pub caused : Result (Unit {0}) Cause → Catalogue → Result Catalogue Layered
 caused (Ok x) k = Ok k
 caused (Err e) k = Err (layered e)
 
--- a table's count is the number of its rules
-abbrev pub CountedRoots : Diagrams → Type 0
-CountedRoots d = d.root_count ≡ length (roots_in d)
-
-abbrev pub CountedGroups : Groups → Type 0
-CountedGroups g = g.count ≡ length (groups_of g)
-
--- the tables count their rules and are of the same width; up to the stage of an S line there is no row
-pub record Even (stage width : ℕ) (d : Diagrams) (c : Clauses) (g : Groups) : Type 0 where
-  pub clauses : c.width ≡ width
-  pub groups : g.width ≡ width
-  pub roots : CountedRoots d
-  pub count : CountedGroups g
-  pub early : stage < 3 → d.used ≡ 0
+-- the tables are of the same width; up to the stage of an S line there is no row
+pub record Even (stage width : ℕ) (t : Tables) : Type 0 where
+  pub clauses : t.clauses.width ≡ width
+  pub groups : t.groups.width ≡ width
+  pub early : stage < 3 → t.diagrams.used ≡ 0
 
 -- the lent memory is the same, and behind the rows it holds what it held
 pub record Lent (d d' : Diagrams) : Type 0 where
@@ -76,12 +77,12 @@ pub record Lent (d d' : Diagrams) : Type 0 where
   pub rest : d'.rows.now ≡ front_replaced (rows_in d') d.rows.now
 
 -- the tables hold exactly what the catalogue has
-pub record Held (d : Diagrams) (c : Clauses) (g : Groups) (k : Catalogue) : Type 0 where
-  pub size : d.width ≡ k.size
-  pub used : d.used ≡ length k.rows
-  pub rows : rows_in d ≡ k.rows
-  pub count : d.root_count ≡ length k.roots
-  pub roots : roots_in d ≡ k.roots
-  pub width : c.width ≡ k.width
-  pub clauses : clauses_of c.count c.clauses ≡ k.clauses
-  pub groups : Holds g k.width k.groups
+pub record Held (t : Tables) (k : Catalogue) : Type 0 where
+  pub size : t.diagrams.width ≡ k.size
+  pub used : t.diagrams.used ≡ length k.rows
+  pub rows : rows_in t.diagrams ≡ k.rows
+  pub count : length t.diagrams.roots.items ≡ length k.roots
+  pub roots : roots_in t.diagrams ≡ k.roots
+  pub width : t.clauses.width ≡ k.width
+  pub clauses : clauses_of t.clauses.clauses ≡ k.clauses
+  pub groups : Holds t.groups k.width k.groups

@@ -3,7 +3,8 @@ ghost use Rattle.std.specs.Prelude.{◌≡◌, Bool, slice_index};
 ghost use Rattle.rule_text.specs.Kinds.{rank_of, stage_of};
 ghost use Rattle.rule_text.specs.RuleLines.{kind_of, in_turn};
 
-#[derive(Clone, Copy, Drop)]
+// In the order of the lines.
+#[derive(Clone, Copy, PartialEq, Eq, PartialOrd, Ord, Drop)]
 pub enum Kind {
     // the number of options
     Width,
@@ -13,22 +14,6 @@ pub enum Kind {
     Root,
     Clause,
     Group,
-}
-
-impl Kind {
-    // The place of the kind in the order of the lines, from 1.
-    fn rank(self) -> u8
-        ensures { result ≡ rank_of self }
-    {
-        match self {
-            Kind::Width => 1,
-            Kind::Block => 2,
-            Kind::Row => 3,
-            Kind::Root => 4,
-            Kind::Clause => 5,
-            Kind::Group => 6,
-        }
-    }
 }
 
 // The kind that a letter names.
@@ -50,23 +35,16 @@ fn kind_of(letter: u8) -> Option<Kind>
 pub(crate) fn first_kind(line: &[u8]) -> Option<Kind>
     ensures { stage_of result ≡ kind_of (slice_index line.now 0) }
 {
-    if line.len() == 0 {
-        return None;
-    }
-    kind_of(line[0])
+    kind_of(*line.first()?)
 }
 
 // Whether a line of the kind may stand after the last one, if there was one.
 pub(crate) fn in_turn(last: Option<Kind>, kind: Kind) -> bool
     ensures { result ≡ in_turn (stage_of last) (rank_of kind) }
 {
-    let last = match last {
-        Some(last) => last.rank(),
-        None => 0,
-    };
     match kind {
-        Kind::Width => last == 0,
-        Kind::Block => last == 1,
-        _ => last >= 1 && last <= kind.rank(),
+        Kind::Width => last.is_none(),
+        Kind::Block => last == Some(Kind::Width),
+        _ => last.is_some_and(|last| last <= kind),
     }
 }

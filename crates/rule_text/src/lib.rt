@@ -3,7 +3,7 @@
 
 pub mod frame;
 mod kind;
-mod opening;
 mod progress;
 mod rule_line;
 pub mod rules_text;
+pub mod tables;

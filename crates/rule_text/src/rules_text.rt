@@ -8,24 +8,20 @@ ghost use Rattle.rule_text.specs.View.{Held, Lent};
 ghost use Rattle.rule_text.specs.Frames.{framed, begun, finished as finished_of};
 
 use crate::frame::Frame;
-use crate::opening::open_tables;
 use crate::progress::Progress;
 use crate::rule_line::read_rule;
-use clauses::table::Clauses;
-use diagrams::table::Diagrams;
-use groups::table::Groups;
-use lines::next::next_line;
+use crate::tables::Tables;
+use lines::iter::Lines;
 use texts::faults::{Cause, LineFault, Text, TextFault, at_line};
-use texts::line_place::after_line;
 
 // Before the first line: empty tables of one option.
-fn begin(diagrams: &mut Diagrams<'_>, clauses: &mut Clauses, groups: &mut Groups) -> Progress
+fn begin(tables: &mut Tables<'_>) -> Progress
     ensures progress { result ≡ begun }
-    ensures opened { Opened diagrams.new clauses.new groups.new 1 }
-    ensures lent { Lent diagrams.old diagrams.new }
+    ensures opened { Opened tables.new 1 }
+    ensures lent { Lent tables.old.diagrams tables.new.diagrams }
 {
     // one option is never refused
-    let _ = open_tables(1, diagrams, clauses, groups);
+    let _ = tables.open(1);
     Progress {
         last: None,
         width: 1,
@@ -43,41 +39,24 @@ fn finished(progress: Progress) -> Result<Frame, TextFault>
             first: progress.first,
         }),
         None => Err(TextFault {
-            text: Text::Rules,
-            line: 1,
+            text: Some(Text::Rules),
+            line: Some(1),
             cause: Cause::Line(LineFault::Letter),
         }),
     }
 }
 
 // Reads the text. The tables end with the rules of the lines before the first fault, or of all.
-pub fn read_rules(
-    text: &[u8],
-    diagrams: &mut Diagrams<'_>,
-    clauses: &mut Clauses,
-    groups: &mut Groups,
-) -> Result<Frame, TextFault>
-    ensures answer { faulted result ≡ framed (rules_text (room_of diagrams.old.rows.now) text.now) }
-    ensures tables { Held diagrams.new clauses.new groups.new (rules_until (room_of diagrams.old.rows.now) text.now) }
-    ensures whole { OnOk result (rules_text (room_of diagrams.old.rows.now) text.now ≡ Ok (rules_until (room_of diagrams.old.rows.now) text.now)) }
-    ensures lent { Lent diagrams.old diagrams.new }
+pub fn read_rules(text: &[u8], tables: &mut Tables<'_>) -> Result<Frame, TextFault>
+    ensures answer { faulted result ≡ framed (rules_text (room_of tables.old.diagrams.rows.now) text.now) }
+    ensures tables { Held tables.new (rules_until (room_of tables.old.diagrams.rows.now) text.now) }
+    ensures whole { OnOk result (rules_text (room_of tables.old.diagrams.rows.now) text.now ≡ Ok (rules_until (room_of tables.old.diagrams.rows.now) text.now)) }
+    ensures lent { Lent tables.old.diagrams tables.new.diagrams }
 {
-    let mut progress = begin(diagrams, clauses, groups);
-    let mut start = 0;
-    let mut count = 0;
-    while let Some(place) = next_line(text, start) {
-        let end = place.end;
-        let result = read_rule(
-            &text[start..end],
-            place.closed,
-            &mut progress,
-            diagrams,
-            clauses,
-            groups,
-        );
-        at_line(result, Text::Rules, count)?;
-        start = after_line(place);
-        count += 1;
+    let mut progress = begin(tables);
+    for (before, line) in Lines::new(text).enumerate() {
+        let result = read_rule(line, &mut progress, tables);
+        at_line(result, Text::Rules, before)?;
     }
     finished(progress)
 }

@@ -1,5 +1,5 @@
 -- What one rule's answer says of the trail's values, be the rule the bank's or a learnt clause.
-use Rattle.std.proofs.Common.{◌≡◌, ℕ, zero, suc, ◌/◌, ◌%◌, ◌<◌, ◌≤◌, Bool, true, false, cond, eqb, ltb, List, [], ◌∷◌, ◌++◌, length, get_or, take, drop, set, None, Ok, Option, sym, refl, ap, ◌∙◌, subst, arith}
+use Rattle.std.proofs.Common.{◌≡◌, ℕ, zero, suc, ◌/◌, ◌%◌, ◌<◌, ◌≤◌, Bool, true, false, cond, eqb, ltb, List, [], ◌∷◌, ◌++◌, length, get_or, take, drop, set, None, Some, Ok, Option, option_map, sym, refl, ap, ◌∙◌, subst, arith}
 use Rattle.std.proofs.lemmas.Bool.{and_parts, eq-eqb, ne_eqb, ltb-true, ltb-false}
 use Rattle.std.proofs.lemmas.List.{get_or-take, get_or_default, get_or_append_left, length-take-le, get_or-set_same}
 use Rattle.builds.specs.Builds.{Build}
@@ -16,18 +16,11 @@ use Rattle.clauses.specs.declared.left.Left.TheVariants.{Nothing, One, Free}
 use Rattle.clauses.specs.Clause.{clause_meets}
 use Rattle.clauses.specs.Literals.{numbers, within}
 use Rattle.clauses.specs.Scan.{joins, stepped, scanned, clause_says}
-use Rattle.search.specs.declared.propagate.Heard.{Heard}
-use Rattle.search.specs.declared.propagate.Heard.TheVariants.{Dead, Marks, Quiet}
+use Rattle.search_theory.proofs.Values.{num_eqb, num_small}
+use Rattle.search.specs.declared.propagate.Mark.{Mark}
+use Rattle.search.specs.declared.propagate.Finding.{Finding}
+use Rattle.search.specs.declared.propagate.Finding.TheVariants.{Dead, Marks}
 use Rattle.search.specs.Finding.{Hears, Marked}
-
-num_eqb : (x : ℕ) → x < 2 → num (eqb x 1) ≡ x
-num_eqb zero l = refl
-num_eqb (suc zero) l = refl
-num_eqb (suc (suc n)) l = absurd (omega arith)
-
-num_small : (v : Bool) → num v < 2
-num_small true = omega arith
-num_small false = omega arith
 
 -- one of the first w values, read with any default
 pub front_at : (w : ℕ) (vs : List ℕ) (o d e : ℕ) → w ≤ length vs → o < w → get_or (take w vs) o d ≡ get_or vs o e
@@ -42,25 +35,31 @@ asked B L rule values room k l u r =
     (no_cause B.width B.rules rule values room k m (omega arith) u, m, L.honest rule (take B.width values) k (length-take-le B.width values m) u)
 
 module _ (w : ℕ) (values : List ℕ) (long : w ≤ length values) (p : Build → Bool) where
-  live_hears : (m old : List ℕ) (r : Heard) → Lives w p (take w values) m → Marked w values (m ++ drop (length m) old) r → Hears w (take w values) (live m) r
-  live_hears m old Dead h k = absurd k
-  live_hears m old (Marks o x) h k =
-      let l : o < length m = omega (arith, h.long, k.within) in
-      let e : get_or m o 2 ≡ x = get_or_default m o 2 0 l ∙ sym (get_or_append_left m (drop (length m) old) 0 o l) ∙ k.there in
-      record { within = k.within; free = front_at w values o 2 0 long k.within ∙ k.free; marks = eq-eqb (get_or m o 2) (num (eqb x 1)) (e ∙ sym (num_eqb x k.small)) }
-  live_hears m old Quiet h k = record {
+  sized_front : length (take w values) ≡ w
+  sized_front = length-take-le w values long
+
+  live_hears : (m old : List ℕ) (r : Option Mark) → Lives w p (take w values) m → Marked (take w values) (take w (m ++ drop (length m) old)) r → Hears w (take w values) (live m) (option_map Marks r)
+  live_hears m old (Some k) h at =
+      let n : k.option < w = omega (arith, at.within, sized_front) in
+      let l : k.option < length m = omega (arith, h.long) in
+      let e : get_or m k.option 2 ≡ num k.value =
+      get_or_default m k.option 2 0 l ∙ sym (get_or_append_left m (drop (length m) old) 0 k.option l) ∙ sym (get_or-take w (m ++ drop (length m) old) k.option 0 n) ∙ at.there in
+      record { within = n; free = get_or_default (take w values) k.option 2 0 at.within ∙ at.free; marks = eq-eqb (get_or m k.option 2) (num k.value) e }
+  live_hears m old None h none = record {
     live = refl;
     still = λ o v l f. (let i : o < length m = omega (arith, h.long) in
-        let q : 2 ≤ get_or (m ++ drop (length m) old) o 0 = k o l (sym (front_at w values o 2 0 long l) ∙ f) in
-        let e : get_or (m ++ drop (length m) old) o 0 ≡ get_or m o 2 = get_or_append_left m (drop (length m) old) 0 o i ∙ get_or_default m o 0 2 i in
+        let j : o < length (take w values) = omega (arith, sized_front) in
+        let q : 2 ≤ get_or (take w (m ++ drop (length m) old)) o 0 = none o j (get_or_default (take w values) o 0 2 j ∙ f) in
+        let e : get_or (take w (m ++ drop (length m) old)) o 0 ≡ get_or m o 2 = get_or-take w (m ++ drop (length m) old) o 0 l ∙ get_or_append_left m (drop (length m) old) 0 o i ∙ get_or_default m o 0 2 i in
         ne_eqb (get_or m o 2) (num v) (λ z. omega (arith, num_small v)));
   }
 
   -- a live answer, by the first mark of an open option
-  pub hears_live : (s : Said) (f : Option ℕ) (old new : List ℕ) (r : Heard) → Honest w p (take w values) s → f ≡ None → Ok Live ≡ answered f s → new ≡ written f s old → Marked w values new r → Hears w (take w values) s r
+  pub hears_live : (s : Said) (f : Option ℕ) (old new : List ℕ) (r : Option Mark) → Honest w p (take w values) s → f ≡ None → Ok Live ≡ answered f s → new ≡ written f s old → Marked (take w values) (take w new) r → Hears w (take w values) s (option_map Marks r)
   hears_live s f old new r h e a b k =
       let q = said_live f s e a in
-      subst (λ z. Hears w (take w values) z r) (sym q.1) (live_hears q.0 old r (subst (Honest w p (take w values)) q.1 h) (subst (λ z. Marked w values z r) (b ∙ ap (λ z. written z s old) e ∙ ap (λ z. written None z old) q.1) k))
+      subst (λ z. Hears w (take w values) z (option_map Marks r)) (sym q.1)
+      (live_hears q.0 old r (subst (Honest w p (take w values)) q.1 h) (subst (λ z. Marked (take w values) (take w z) r) (b ∙ ap (λ z. written z s old) e ∙ ap (λ z. written None z old) q.1) k))
 
 -- the one literal that a scan leaves is of an open option below w
 abbrev OpenLeft : ℕ → List ℕ → Left → Type 0
@@ -92,10 +91,10 @@ left_open w v (l ∷ ls) s h k =
     left_open w v ls (stepped s l (get_or v (l.number / 2) 2)) q.1 (open_step w v s l (ltb-true (l.number / 2) w q.0) k)
 
 -- what is heard of a learnt clause of which a scan leaves this
-abbrev pub heard_of : Left → Heard
-heard_of Nothing = Dead
-heard_of (One l) = Marks (l.number / 2) (l.number % 2)
-heard_of Free = Quiet
+abbrev pub heard_of : Left → Option Finding
+heard_of Nothing = Some Dead
+heard_of (One l) = Some (Marks (record { option = l.number / 2; value = eqb (l.number % 2) 1 }))
+heard_of Free = None
 
 module _ (w : ℕ) (values : List ℕ) (ls : List Literal) (long : w ≤ length values) (inside : within w (numbers ls) ≡ true) (small : up_to 2 (take w values) ≡ true) where
   sized : length (take w values) ≡ w

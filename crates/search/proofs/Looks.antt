@@ -1,5 +1,5 @@
 -- What a look at all rules finds: the answers of single rules, joined to what the theory says of the trail.
-use Rattle.std.proofs.Common.{◌≡◌, ℕ, zero, suc, ◌<◌, ◌≤◌, Bool, true, false, eqb, List, [], ◌∷◌, length, get_or, take, sym, refl, ap, ◌∙◌, subst, inl, inr, arith}
+use Rattle.std.proofs.Common.{◌≡◌, ℕ, zero, suc, ◌<◌, ◌≤◌, Bool, true, false, List, [], ◌∷◌, length, get_or, take, Some, Option, sym, refl, ap, ◌∙◌, subst, inl, inr, arith}
 use Rattle.std.proofs.lemmas.Bool.{cases_eq, cases_lt, lt-ltb, le-ltb, or_left, or_right}
 use Rattle.std.proofs.lemmas.List.FromFn.{take-map-range_with_len}
 use Rattle.builds.specs.Values.{up_to}
@@ -10,8 +10,9 @@ use Rattle.clauses.specs.Literals.{within}
 use Rattle.search_theory.specs.Trails.{Entry, unset, picked, decided, implied, Trail, Store, Source, bank_rule, learnt_rule}
 use Rattle.search_theory.specs.Searches.{any_below, any_of, is_dead, clause_dead, dead_at, marks_at, shown, values_from}
 use Rattle.search_theory.proofs.Banks.{length_values, at_values, up_to_values}
-use Rattle.search.specs.declared.propagate.Heard.{Heard}
-use Rattle.search.specs.Finding.{Silent, Told, Hears, Noted, Quietly, AllInside}
+use Rattle.search.specs.declared.propagate.Finding.{Finding}
+use Rattle.search.specs.declared.propagate.Finding.TheVariants.{Dead, Marks}
+use Rattle.search.specs.Finding.{Silent, Told, Hears, Noted, Quietly, Asks, AllInside}
 use Rattle.trail.proofs.Tables.{values_made}
 
 shown_open : (e : Entry) → shown e ≡ 2 → e ≡ unset
@@ -46,7 +47,7 @@ module _ (B : Bank) (L : Duties B) (t : Trail) (values : List ℕ) (made : value
   abbrev vs : List ℕ
   vs = take B.width values
 
-  pub whole : 128 ≤ length values
+  whole : 128 ≤ length values
   whole = omega (arith, ap length made, length_values 128 0 t)
 
   same : vs ≡ values_from B.width 0 t
@@ -60,7 +61,7 @@ module _ (B : Bank) (L : Duties B) (t : Trail) (values : List ℕ) (made : value
   learnt_says k = answer_of B.width (clause_meets (get_or st k [])) vs
 
   -- a learnt clause is heard at its own literals, and these are the store's
-  pub learnt_told : (k : ℕ) (c : List ℕ) (r : Heard) → k < length st → AllInside B.width st → c ≡ get_or st k [] →
+  pub learnt_told : (k : ℕ) (c : List ℕ) (r : Option Finding) → k < length st → AllInside B.width st → c ≡ get_or st k [] →
       ((w : ℕ) → w ≤ 128 → within w c ≡ true → up_to 2 (take w values) ≡ true → Hears w (take w values) (answer_of w (clause_meets c) (take w values)) r) → Hears B.width vs (learnt_says k) r
   learnt_told k c r l inside e told = subst (λ x. Hears B.width vs (answer_of B.width (clause_meets x) vs) r) e (told B.width L.narrow (ap (within B.width) e ∙ inside k l) small)
 
@@ -70,25 +71,34 @@ module _ (B : Bank) (L : Duties B) (t : Trail) (values : List ℕ) (made : value
   still_free : (o : ℕ) → o < B.width → t o ≡ unset → get_or vs o 2 ≡ 2
   still_free o l e = ap (λ x. get_or x o 2) same ∙ at_values B.width t o l ∙ ap shown e
 
-  pub dead_bank : (r : ℕ) → r < B.rules → is_dead (B.says r vs) ≡ true → dead_at B st (values_from B.width 0 t) ≡ true
+  dead_bank : (r : ℕ) → r < B.rules → is_dead (B.says r vs) ≡ true → dead_at B st (values_from B.width 0 t) ≡ true
   dead_bank r l e = subst (λ x. dead_at B st x ≡ true) same (or_left (any_below B.rules (λ r. is_dead (B.says r vs))) (any_of (clause_dead B.width vs) st) (any_intro B.rules (λ r. is_dead (B.says r vs)) r l e))
 
-  pub dead_learnt : (k : ℕ) → k < length st → is_dead (learnt_says k) ≡ true → dead_at B st (values_from B.width 0 t) ≡ true
+  dead_learnt : (k : ℕ) → k < length st → is_dead (learnt_says k) ≡ true → dead_at B st (values_from B.width 0 t) ≡ true
   dead_learnt k l e = subst (λ x. dead_at B st x ≡ true) same (or_right (any_below B.rules (λ r. is_dead (B.says r vs))) (any_of (clause_dead B.width vs) st) (of_intro (clause_dead B.width vs) st k l e))
 
-  pub marks_bank : (r o x : ℕ) → r < B.rules → Told B.width vs (B.says r vs) o x → Noted B st t o x (bank_rule r)
+  marks_bank : (r o : ℕ) (x : Bool) → r < B.rules → Told B.width vs (B.says r vs) o x → Noted B st t o x (bank_rule r)
   marks_bank r o x l k = record {
     within = k.within;
     free = free o k.within k.free;
-    marks = subst (λ z. marks_at B st z (bank_rule r) o (eqb x 1) ≡ true) same (rw (lt-ltb r B.rules l) k.marks);
+    marks = subst (λ z. marks_at B st z (bank_rule r) o x ≡ true) same (rw (lt-ltb r B.rules l) k.marks);
   }
 
-  pub marks_learnt : (h o x : ℕ) → h < length st → Told B.width vs (learnt_says h) o x → Noted B st t o x (learnt_rule h)
+  marks_learnt : (h o : ℕ) (x : Bool) → h < length st → Told B.width vs (learnt_says h) o x → Noted B st t o x (learnt_rule h)
   marks_learnt h o x l k = record {
     within = k.within;
     free = free o k.within k.free;
-    marks = subst (λ z. marks_at B st z (learnt_rule h) o (eqb x 1) ≡ true) same (rw (lt-ltb h (length st) l) k.marks);
+    marks = subst (λ z. marks_at B st z (learnt_rule h) o x ≡ true) same (rw (lt-ltb h (length st) l) k.marks);
   }
+
+  -- what a rule was found to ask for, be it the bank's or a learnt one
+  pub asks_bank : (r : ℕ) (f : Finding) → r < B.rules → Hears B.width vs (B.says r vs) (Some f) → Asks B st t f (bank_rule r)
+  asks_bank r Dead l h = dead_bank r l h
+  asks_bank r (Marks m) l h = marks_bank r m.option m.value l h
+
+  pub asks_learnt : (k : ℕ) (f : Finding) → k < length st → Hears B.width vs (learnt_says k) (Some f) → Asks B st t f (learnt_rule k)
+  asks_learnt k Dead l h = dead_learnt k l h
+  asks_learnt k (Marks m) l h = marks_learnt k m.option m.value l h
 
   pub calm : ((r : ℕ) → r < B.rules → Silent B.width vs (B.says r vs)) → ((k : ℕ) → k < length st → Silent B.width vs (learnt_says k)) → Quietly B st t
   calm f g = record { live = subst (λ x. dead_at B st x ≡ false) same none; still = still }

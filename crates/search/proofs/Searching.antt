@@ -11,7 +11,7 @@ use Rattle.search.specs.Standing.{Hopeless}
 -- where a step is needed, a full trail has a dead rule
 pub one_needed : (B : Bank) (ps : List ℕ) (a : Point) (next : Next) → Needs B a.store a.trail (Some next) → Full B.width a.trail → (quest B ps).dead a.store a.trail ≡ true
 one_needed B ps a Conflict n full = n
-one_needed B ps a (Implication o x s) n full = absurd (full o n.within n.free)
+one_needed B ps a (Implication m r) n full = absurd (full m.option n.within n.free)
 one_needed B ps a (Decision o) n full = absurd (full o n.lowest.within n.lowest.free)
 
 module _ (B : Bank) (ps : List ℕ) (a0 a : Point) (n budget : ℕ) (S : Steps (quest B ps) n a0 a) (le : n ≤ budget) where

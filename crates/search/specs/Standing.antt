@@ -1,18 +1,22 @@
 -- Where a search may stand, and how it ends.
-use Rattle.std.specs.Prelude.{◌≡◌, ℕ, Bool, true, false, List}
+use Rattle.std.specs.Prelude.{◌≡◌, ℕ, true, List, Ok, Err, Result}
+use Rattle.builds.specs.Builds.{Build as Made}
 use Rattle.bank.specs.Banks.{Bank}
-use Rattle.search_theory.specs.Trails.{Point, Trail, Quest, Step, read}
+use Rattle.search_theory.specs.Trails.{Point, Quest, Step}
 use Rattle.search_theory.specs.Searches.{End, built, nothing, out}
 use Rattle.search_theory.specs.Held.{Reached}
-use Rattle.trail.specs.declared.trail.Trail.{Trail as Table}
-use Rattle.trail.specs.declared.learnt.Learnt.{Learnt}
-use Rattle.search.specs.declared.search.End.{End as Ended}
-use Rattle.search.specs.declared.search.End.TheVariants.{Build, NoBuild, Spent}
 use Rattle.trail.specs.View.{point}
+use Rattle.search.specs.declared.search.Search.{Search}
+use Rattle.search.specs.declared.step.NoDecision.{NoDecision}
+use Rattle.search.specs.declared.verdict.Verdict.{Verdict}
+use Rattle.search.specs.declared.verdict.Verdict.TheVariants.{Build, NoBuild, Spent}
 
--- a search over the bank under these picks may go on from here. Callers keep it and use its laws, and do not look into it
-unfoldable pub Standing : Bank → List ℕ → Table → Learnt → Type 0
-Standing B ps t s = Reached B ps (point t s)
+abbrev pub point_of : Search → Point
+point_of s = point s.trail s.learnt
+
+-- a search over the bank under these picks may go on from here: there is a way to it. Callers keep it and use its laws, and do not look into it
+unfoldable pub Standing : Bank → List ℕ → Search → Type 0
+Standing B ps s = ∥ Reached B ps (point_of s) ∥₁
 
 -- a rule is dead and no decision stands: nothing changes any more
 pub record Hopeless (Q : Quest) (a b : Point) : Type 0 where
@@ -21,12 +25,12 @@ pub record Hopeless (Q : Quest) (a b : Point) : Type 0 where
   pub flat : a.depth ≡ 0
 
 -- a step was taken, or the conflict ends the search
-abbrev pub Taken : Quest → Point → Point → Bool → Type 0
-Taken Q a b true = Step Q a b
-Taken Q a b false = Hopeless Q a b
+abbrev pub Taken : Quest → Point → Point → Result Unit NoDecision → Type 0
+Taken Q a b (Ok u) = Step Q a b
+Taken Q a b (Err e) = Hopeless Q a b
 
--- how the search ended, at a build with what the trail reads
-abbrev pub end_of : ℕ → Trail → Ended → End
-end_of W t Build = built (read W t)
-end_of W t NoBuild = nothing
-end_of W t Spent = out
+-- how the search ended, at a build with this one
+abbrev pub end_by : Verdict → Made → End
+end_by Build β = built β
+end_by NoBuild β = nothing
+end_by Spent β = out

@@ -5,3 +5,4 @@ mod analyze;
 mod propagate;
 pub mod search;
 mod step;
+pub mod verdict;

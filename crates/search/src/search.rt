@@ -1,44 +1,52 @@
 // The search: step by step, until all options are valued and no rule is dead, no decision is left to take back, or the budget is spent.
 ghost use Rattle.std.specs.Prelude.{ℕ, List};
-ghost use Rattle.search_theory.specs.Searches.{quest, Search};
+ghost use Rattle.search_theory.specs.Trails.{read};
+ghost use Rattle.search_theory.specs.Searches.{quest, Search as Searched};
 ghost use Rattle.search_theory.specs.Held.{StoreSound};
-ghost use Rattle.trail.specs.View.{trail_of, store_of, point};
-ghost use Rattle.search.specs.Standing.{Standing, end_of};
+ghost use Rattle.trail.specs.View.{trail_of, store_of};
+ghost use Rattle.search.specs.Standing.{point_of, Standing, end_by};
 
-use crate::step::{next_step, take_step};
+use crate::step::NoDecision;
+use crate::verdict::{Counted, Verdict};
 use bank::rule_bank::RuleBank;
 use trail::learnt::Learnt;
 use trail::trail::Trail;
 
-// How a search ended, or that it stopped: the trail is the build, there is none, or the budget is spent.
-#[derive(Clone, Copy, PartialEq, Eq, Debug, Drop)]
-pub enum End {
-    Build,
-    NoBuild,
-    Spent,
+// Where a search stands: the trail, and what was learnt so far.
+#[derive(Drop)]
+pub struct Search {
+    pub trail: Trail,
+    pub learnt: Learnt,
 }
 
-// Goes on with the search for at most `budget` steps; how it ended, and how many steps it took. The conflict that ends it is a step too.
-pub fn search<B: RuleBank>(b: &B, trail: &mut Trail, learnt: &mut Learnt, budget: u64) -> (End, u64)
-    ensures searches { (ps : List ℕ) → Standing (B.meaning b.now) ps trail.old learnt.old
-        → Search (quest (B.meaning b.now) ps) budget (point trail.old learnt.old) result.1 (point trail.new learnt.new) (end_of (B.meaning b.now).width (trail_of trail.new.entries) result.0) }
-    ensures stands { (ps : List ℕ) → Standing (B.meaning b.now) ps trail.old learnt.old → Standing (B.meaning b.now) ps trail.new learnt.new }
-    ensures learns { (ps : List ℕ) → Standing (B.meaning b.now) ps trail.old learnt.old → StoreSound (B.meaning b.now) (store_of learnt.new) }
-{
-    let width = b.width();
-    let mut steps: u64 = 0;
-    loop {
-        match next_step(b, trail, learnt) {
-            None => return (End::Build, steps),
-            Some(next) => {
-                if steps == budget {
-                    return (End::Spent, steps);
-                }
-                steps += 1;
-                if !take_step(next, width, trail, learnt) {
-                    return (End::NoBuild, steps);
-                }
+impl Search {
+    // Goes on for at most `budget` steps: how the search ended, and how many steps it took. The conflict that ends it is a step too.
+    pub fn run<B: RuleBank>(&mut self, b: &B, budget: u64) -> Counted<Verdict>
+        ensures searches { (ps : List ℕ) → Standing (B.meaning b.now) ps self.old
+            → Searched (quest (B.meaning b.now) ps) budget (point_of self.old) result.steps (point_of self.new) (end_by result.answer (read (B.meaning b.now).width (trail_of self.new.trail.entries))) }
+        ensures stands { (ps : List ℕ) → Standing (B.meaning b.now) ps self.old → Standing (B.meaning b.now) ps self.new }
+        ensures learns { (ps : List ℕ) → Standing (B.meaning b.now) ps self.old → StoreSound (B.meaning b.now) (store_of self.new.learnt) }
+    {
+        let width = b.width();
+        let mut steps: u64 = 0;
+        while let Some(next) = self.next_step(b) {
+            if steps == budget {
+                return Counted {
+                    answer: Verdict::Spent,
+                    steps,
+                };
             }
+            steps += 1;
+            if let Err(NoDecision) = self.take_step(next, width) {
+                return Counted {
+                    answer: Verdict::NoBuild,
+                    steps,
+                };
+            }
+        }
+        Counted {
+            answer: Verdict::Build,
+            steps,
         }
     }
 }

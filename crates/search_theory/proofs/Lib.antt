@@ -1,5 +1,6 @@
 pub mod Sound
 pub mod Bound
+pub mod Values
 pub mod Picks
 pub mod Banks
 pub mod Dense

@@ -9,6 +9,7 @@ use Rattle.clauses.specs.Clause.{clause_meets}
 use Rattle.search_theory.specs.Searches.{is_dead, mark_is}
 use Rattle.search_theory.specs.Denials.{Set}
 use Rattle.search_theory.specs.Backed.{LocalTo, HasValues, mentions}
+use Rattle.search_theory.proofs.Values.{num_small}
 use Rattle.search_theory.proofs.Banks.{honest_dead, honest_marks}
 
 -- the build with the table's values where it has them
@@ -47,10 +48,6 @@ overlay_same (zero ∷ vs) (b ∷ β) (suc o) h = overlay_same vs β o h
 overlay_same (suc zero ∷ vs) (b ∷ β) (suc o) h = overlay_same vs β o h
 overlay_same (suc (suc n) ∷ vs) (b ∷ β) (suc o) h = overlay_same vs β o h
 
-num_low : (x : Bool) → num x < 2
-num_low true = omega arith
-num_low false = omega arith
-
 -- a rule p that reads the options of a set, and what was honestly said of it at a table v
 module _ (W : ℕ) (p : Build → Bool) (reads : Set) (local : LocalTo W p reads) (v : List ℕ) (s : Said) (h : Honest W p v s) (β : Build) (long : length β ≡ W) (has : HasValues W reads v β) where
   long' : length (overlay v β) ≡ W
@@ -66,7 +63,7 @@ module _ (W : ℕ) (p : Build → Bool) (reads : Set) (local : LocalTo W p reads
   -- a mark of an option without a value: all such builds that meet it have it
   pub read_marks : (o : ℕ) (x : Bool) → o < W → 2 ≤ get_or v o 2 → mark_is s o x ≡ true → p β ≡ true → bit β o ≡ x
   read_marks o x l k e m =
-      sym (overlay_same v β o (λ y q. absurd (let n : num y < 2 = num_low y in omega arith)))
+      sym (overlay_same v β o (λ y q. absurd (let n : num y < 2 = num_small y in omega arith)))
       ∙ honest_marks W p v s h o x l e (overlay v β) long' (overlay_fits v β) (alike ∙ m)
 
 -- a clause reads the options of its literals

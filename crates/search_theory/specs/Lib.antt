@@ -1,3 +1,4 @@
+pub mod Values
 pub mod Orders
 pub mod Trails
 pub mod Searches

@@ -1,21 +1,31 @@
 -- What complete and resume have done once their search has ended or stopped.
-use Rattle.std.proofs.Common.{◌≡◌, ℕ, true, false, List, [], ◌∷◌, ◌++◌, map, length, take, drop, Some, None, Ok, Option, sym, refl, ap, ◌∙◌, subst, true≢false, arith}
+use Rattle.std.proofs.Common.{◌≡◌, ℕ, Bool, true, false, List, [], ◌∷◌, ◌++◌, map, length, take, drop, Some, None, Ok, Option, sym, refl, ap, ◌∙◌, subst, true≢false, arith}
+use Rattle.std.proofs.Math.Logic.{∥∥₁_elim, ∥∥₁_map}
+use Rattle.std.proofs.Props.{props}
 use Rattle.std.proofs.lemmas.List.{take_all, take-append-le, length-map}
 use Rattle.builds.specs.Builds.{Build, first_build}
 use Rattle.builds.specs.Values.{num, bits}
 use Rattle.bank.specs.Banks.{Bank, Duties}
 use Rattle.search_theory.specs.Orders.{fulfils}
+use Rattle.search_theory.specs.Trails.{Trail, read}
+use Rattle.search_theory.specs.Searches.{quest, End, Search}
 use Rattle.search_theory.specs.Calls.{Call, Reply, State, said, goes_on, Does}
-use Rattle.search_theory.specs.Held.{SessionOk}
-use Rattle.search_theory.specs.Law.{whole, Answer, is_build, is_none, asks, completed, answer_to}
-use Rattle.search_theory.proofs.Kept.{kept_does}
+use Rattle.search_theory.specs.Held.{Reached, SessionOk}
+use Rattle.search_theory.specs.Law.{whole, Answer, is_build, is_none, asks, finished, completed, answer_to}
+use Rattle.search_theory.proofs.Sound.{length_read}
+use Rattle.search_theory.proofs.Kept.{kept_start, kept_completes}
 use Rattle.search_theory.proofs.Ends.{does_right}
-use Rattle.search.specs.Standing.{Standing}
-use Rattle.session.specs.declared.completion.Verdict.{Verdict}
-use Rattle.session.specs.declared.completion.Verdict.TheVariants.{Build as Found, NoBuild, Spent}
-use Rattle.session.specs.declared.session.Session.{Session}
-use Rattle.session.specs.View.{state_of, Stands}
-use Rattle.session.specs.Completing.{stays_open, end_by, filled, completion_reply, Settles, FirstFound}
+use Rattle.trail.specs.declared.trail.Trail.{Trail as Table}
+use Rattle.search_theory.specs.Values.{value_number}
+use Rattle.trail.specs.Beginning.{Begun}
+use Rattle.trail.proofs.Starts.{begun_start}
+use Rattle.search.specs.Standing.{Standing, end_by}
+use Rattle.search.proofs.Stands.{reached_standing}
+use Rattle.search.specs.declared.search.Search.{Search as Running}
+use Rattle.search.specs.declared.verdict.Verdict.{Verdict}
+use Rattle.search.specs.declared.verdict.Verdict.TheVariants.{Build as Found, NoBuild, Spent}
+use Rattle.session.specs.Stands.{state}
+use Rattle.session.specs.Completing.{stays_open, filled, completion_reply, Settles, FirstFound}
 
 -- the build can be read off the place that it fills
 bits_num : (β : Build) → bits (map num β) ≡ β
@@ -23,7 +33,7 @@ bits_num [] = refl
 bits_num (true ∷ β) = ap (λ x. true ∷ x) (bits_num β)
 bits_num (false ∷ β) = ap (λ x. false ∷ x) (bits_num β)
 
-pub read_back : (W : ℕ) (β : Build) (old : List ℕ) → length β ≡ W → bits (take W (map num β ++ drop W old)) ≡ β
+read_back : (W : ℕ) (β : Build) (old : List ℕ) → length β ≡ W → bits (take W (map num β ++ drop W old)) ≡ β
 read_back W β old l =
     let n : length (map num β) ≡ W = length-map β num ∙ l in
     ap bits (take-append-le W (map num β) (drop W old) (omega arith) ∙ take_all W (map num β) (omega arith)) ∙ bits_num β
@@ -40,8 +50,8 @@ open_same NoBuild β = refl
 open_same Spent β = refl
 
 -- what the call is to have done, by what the trail reads
-pub read_reply : (B : Bank) (s s' : State) (c : Call) (v : Verdict) (n : ℕ) (β : Build) (old new : List ℕ) → length β ≡ B.width → new ≡ filled B.width v β old →
-    Does B s c (said (end_by v β) n) s' → Does B s c (completion_reply B.width (Ok (record { verdict = v; steps = n })) new) s'
+read_reply : (B : Bank) (s s' : State) (c : Call) (v : Verdict) (n : ℕ) (β : Build) (old new : List ℕ) → length β ≡ B.width → new ≡ filled B.width v β old →
+    Does B s c (said (end_by v β) n) s' → Does B s c (completion_reply B.width (Ok (record { answer = v; steps = n })) new) s'
 read_reply B s s' c v n β old new l e D = subst (λ x. Does B s c (said x n) s') (sym (end_same B.width v β old new l e)) D
 
 found_some : (x : Option Build) (β : Build) → is_build β ≡ completed x → x ≡ Some β
@@ -56,22 +66,40 @@ answered_whole : (B : Bank) (ps : List ℕ) (a : Answer) → a ≡ answer_to B p
 unfolding answer_to
 answered_whole B ps a e = e
 
--- a finished verdict is right
-pub finds_first : (B : Bank) → Duties B → (s s' : State) (c : Call) (v : Verdict) (n : ℕ) (β : Build) (old new : List ℕ) → asks c ≡ Some whole → length β ≡ B.width → new ≡ filled B.width v β old →
-    SessionOk B s → Does B s c (completion_reply B.width (Ok (record { verdict = v; steps = n })) new) s' → FirstFound B.width (first_build B.width (fulfils B s.picks)) (Ok (record { verdict = v; steps = n })) old new
-finds_first B L s s' c Found n β old new q l e ok D =
-    let b : bits (take B.width new) ≡ β = ap (λ p. bits (take B.width p)) e ∙ read_back B.width β old l in
-    let a = does_right B L s s' c _ ok D whole (is_build (bits (take B.width new))) q refl in
-    let f : first_build B.width (fulfils B s.picks) ≡ Some β = found_some _ β (ap is_build (sym b) ∙ answered_whole B s.picks (is_build (bits (take B.width new))) a.0) in
-    subst (λ x. Settles B.width x Found old new) (sym f) (refl, e)
-finds_first B L s s' c NoBuild n β old new q l e ok D =
-    let a = does_right B L s s' c _ ok D whole is_none q refl in
-    subst (λ x. Settles B.width x NoBuild old new) (sym (found_none _ (answered_whole B s.picks is_none a.0))) (refl, e)
-finds_first B L s s' c Spent n β old new q l e ok D = e
+-- the open search may go on
+pub open_standing : (B : Bank) (ps : List (Option Bool)) (s : Running) (going : Bool) → ∥ SessionOk B (state ps s going) ∥₁ → going ≡ true → Standing B (map value_number ps) s
+open_standing B ps s going h e = reached_standing B (map value_number ps) s (∥∥₁_map h (λ ok. ok.reached e))
 
--- the session may go on
-pub kept_search_on : {X : Type 0} (B : Bank) (s s' : Session X) (c : Call) (r : Reply) → s'.picks ≡ s.picks → Stands B s → Does B (state_of s) c r (state_of s') → Standing B s.picks s'.trail s'.learnt → Stands B s'
-kept_search_on B s s' c r p h D S = record {
-  ok = kept_does B (state_of s) (state_of s') c r h.ok D;
-  standing = λ t. subst (λ ps. Standing B ps s'.trail s'.learnt) (sym p) S;
-}
+-- a search that begins is open
+pub begun_ok : (B : Bank) (ps : List (Option Bool)) (s : Running) (t : Table) (going : Bool) → Begun (map value_number ps) t → ∥ SessionOk B (state ps s going) ∥₁ → ∥ SessionOk B (state ps (record s { trail = t }) true) ∥₁
+begun_ok B ps s t going b h =
+    ∥∥₁_map h (λ ok. record { picks = ok.picks; learnt = ok.learnt; reached = λ e. subst (Reached B (map value_number ps)) (sym (begun_start (map value_number ps) t s.learnt b)) (kept_start B (state ps s going) ok) })
+
+-- a search that goes on from where it may leaves the session where it may stand
+pub searched_ok : (B : Bank) (s s' : State) (budget n : ℕ) (e : End) → s.searching ≡ true → Search (quest B s.picks) budget s.point n s'.point e → s'.picks ≡ s.picks → s'.searching ≡ goes_on e → ∥ SessionOk B s ∥₁ → ∥ SessionOk B s' ∥₁
+searched_ok B s s' budget n e going r p q h =
+    ∥∥₁_map h (λ ok. kept_completes B s s' budget s.point (said e n) ok (ok.reached going) (record { steps = n; end = e; search = r; reply = refl; picks = p; searching = q }))
+
+-- the first build that a finished verdict names
+named : (B : Bank) → Duties B → (s s' : State) (c : Call) (r : Reply) (a : Answer) → asks c ≡ Some whole → finished r ≡ Some a → ∥ SessionOk B s ∥₁ → Does B s c r s' → (x : Option Build) → (a ≡ completed (first_build B.width (fulfils B s.picks)) → first_build B.width (fulfils B s.picks) ≡ x) → first_build B.width (fulfils B s.picks) ≡ x
+named B L s s' c r a q f h D x k = ∥∥₁_elim h (Prim.hlevel props) (λ ok. k (answered_whole B s.picks a (does_right B L s s' c r ok D whole a q f).0))
+
+-- a finished verdict is right
+finds_first : (B : Bank) → Duties B → (s s' : State) (c : Call) (v : Verdict) (n : ℕ) (β : Build) (old new : List ℕ) → asks c ≡ Some whole → length β ≡ B.width → new ≡ filled B.width v β old →
+    ∥ SessionOk B s ∥₁ → Does B s c (completion_reply B.width (Ok (record { answer = v; steps = n })) new) s' → FirstFound B.width (first_build B.width (fulfils B s.picks)) (Ok (record { answer = v; steps = n })) old new
+finds_first B L s s' c Found n β old new q l e h D =
+    let b : bits (take B.width new) ≡ β = ap (λ p. bits (take B.width p)) e ∙ read_back B.width β old l in
+    let f : first_build B.width (fulfils B s.picks) ≡ Some β =
+    named B L s s' c _ (is_build (bits (take B.width new))) q refl h D (Some β) (λ a. found_some _ β (ap is_build (sym b) ∙ a)) in
+    subst (λ x. Settles B.width x Found old new) (sym f) (refl, e)
+finds_first B L s s' c NoBuild n β old new q l e h D =
+    subst (λ x. Settles B.width x NoBuild old new) (sym (named B L s s' c _ is_none q refl h D None (found_none _))) (refl, e)
+finds_first B L s s' c Spent n β old new q l e h D = e
+
+-- what a performed completion promises, by what its search did
+pub completion : (B : Bank) → Duties B → (s s' : State) (c : Call) (v : Verdict) (n : ℕ) (t : Trail) (old new : List ℕ) → asks c ≡ Some whole → new ≡ filled B.width v (read B.width t) old → ∥ SessionOk B s ∥₁ → Does B s c (said (end_by v (read B.width t)) n) s' →
+    Does B s c (completion_reply B.width (Ok (record { answer = v; steps = n })) new) s' × FirstFound B.width (first_build B.width (fulfils B s.picks)) (Ok (record { answer = v; steps = n })) old new
+completion B L s s' c v n t old new q e h D =
+    let l = length_read B.width 0 t in
+    let D' = read_reply B s s' c v n (read B.width t) old new l e D in
+    (D', finds_first B L s s' c v n (read B.width t) old new q l e h D')

@@ -1,19 +1,36 @@
 -- What the calls keep of a session.
-use Rattle.std.proofs.Common.{◌≡◌, ℕ, false, Some, None, Option, sym, ap, ◌∙◌}
+use Rattle.std.proofs.Common.{◌≡◌, ℕ, false, List, Some, None, Option, sym, ap, ◌∙◌, subst}
+use Rattle.std.proofs.Math.Logic.{∥∥₁_elim, ∥∥₁_map}
+use Rattle.std.proofs.Props.{props}
 use mathlib.Core.Bool.{false≢true}
 use Rattle.bank.specs.Banks.{Bank}
 use Rattle.search_theory.specs.Calls.{Call, pick, release, Reply, refused, done, build, no_build, spent, only, either, State, refusal, Refuses, Does}
-use Rattle.search_theory.specs.Runs.{New}
-use Rattle.search_theory.proofs.Kept.{kept_does, new_ok}
-use Rattle.session.specs.declared.session.Session.{Session}
-use Rattle.session.specs.View.{state_of, Stands}
+use Rattle.search_theory.specs.Held.{StoreSound, PicksOk, SessionOk}
+use Rattle.search_theory.proofs.Kept.{kept_does}
+use Rattle.search.proofs.Stands.{store_prop}
 
--- where no search is open there is nothing more to keep than the theory keeps
-pub kept_closed : {X : Type 0} (B : Bank) (s s' : Session X) (c : Call) (r : Reply) → s'.searching ≡ false → Does B (state_of s) c r (state_of s') → Stands B s → Stands B s'
-kept_closed B s s' c r e D h = record { ok = kept_does B (state_of s) (state_of s') c r h.ok D; standing = λ t. absurd (false≢true (sym e ∙ t)) }
+-- a call leads from where a session may stand to where it may stand
+pub kept_by : (B : Bank) (s s' : State) (c : Call) (r : Reply) → ∥ SessionOk B s ∥₁ → Does B s c r s' → ∥ SessionOk B s' ∥₁
+kept_by B s s' c r h D = ∥∥₁_map h (λ ok. kept_does B s s' c r ok D)
 
-pub new_stands : {X : Type 0} (B : Bank) (s : Session X) → New B (state_of s) → Stands B s
-new_stands B s n = record { ok = new_ok B (state_of s) n; standing = λ t. absurd (false≢true (sym n.searching ∙ t)) }
+-- the picks of a session are in order in one way at most
+picks_prop : (B : Bank) (ps : List ℕ) → IsProp (PicksOk B ps)
+picks_prop B ps = Prim.hlevel props
+
+-- the same session without an open search: what a call needs that begins a search of its own
+abbrev pub closed : State → State
+closed s = record { picks = s.picks; point = s.point; searching = false }
+
+pub closed_ok : (B : Bank) (s : State) → ∥ SessionOk B s ∥₁ → SessionOk B (closed s)
+closed_ok B s h = record {
+  picks = ∥∥₁_elim h (picks_prop B s.picks) (λ ok. ok.picks);
+  learnt = ∥∥₁_elim h (store_prop B s.point.store) (λ ok. ok.learnt);
+  reached = λ t. absurd (false≢true t);
+}
+
+-- the picks stay, what was learnt is sound, and no search is open
+pub learnt_ok : (B : Bank) (s s' : State) → ∥ SessionOk B s ∥₁ → s'.picks ≡ s.picks → s'.searching ≡ false → StoreSound B s'.point.store → SessionOk B s'
+learnt_ok B s s' h p q T = record { picks = subst (PicksOk B) (sym p) (closed_ok B s h).picks; learnt = T; reached = λ t. absurd (false≢true (sym q ∙ t)) }
 
 -- the cause that a reply names
 abbrev pub reply_cause : Reply → Option ℕ

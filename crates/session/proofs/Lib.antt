@@ -1,4 +1,5 @@
+pub mod Picks
+pub mod Checked
 pub mod Keeping
-pub mod Builds
 pub mod Completed
 pub mod Questions

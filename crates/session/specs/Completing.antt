@@ -4,23 +4,17 @@ use Rattle.builds.specs.Builds.{Build}
 use Rattle.builds.specs.Values.{num, bits}
 use Rattle.bank.specs.declared.refusal.Refusal.{Refusal}
 use Rattle.bank.specs.Numbers.{number_of}
-use Rattle.search_theory.specs.Searches.{End, built, nothing, out}
 use Rattle.search_theory.specs.Calls.{Reply, refused, said}
-use Rattle.session.specs.declared.completion.Verdict.{Verdict}
-use Rattle.session.specs.declared.completion.Verdict.TheVariants.{Build as Found, NoBuild, Spent}
-use Rattle.session.specs.declared.completion.Completion.{Completion}
+use Rattle.search.specs.declared.verdict.Verdict.{Verdict}
+use Rattle.search.specs.declared.verdict.Verdict.TheVariants.{Build as Found, NoBuild, Spent}
+use Rattle.search.specs.declared.verdict.Counted.{Counted}
+use Rattle.search.specs.Standing.{end_by}
 
 -- only a search that is out of budget stays open
 abbrev pub stays_open : Verdict → Bool
 stays_open Found = false
 stays_open NoBuild = false
 stays_open Spent = true
-
--- how the search ended, where it found this build if any
-abbrev pub end_by : Verdict → Build → End
-end_by Found β = built β
-end_by NoBuild β = nothing
-end_by Spent β = out
 
 -- a build fills the first W places with 0 and 1; none and spent leave the place
 abbrev pub filled : ℕ → Verdict → Build → List ℕ → List ℕ
@@ -29,13 +23,13 @@ filled W NoBuild β old = old
 filled W Spent β old = old
 
 -- the same of a call, which leaves the place where it is refused
-abbrev pub place_after : ℕ → Result Completion Refusal → Build → List ℕ → List ℕ
-place_after W (Ok c) β old = filled W c.verdict β old
+abbrev pub place_after : ℕ → Result (Counted Verdict) Refusal → Build → List ℕ → List ℕ
+place_after W (Ok c) β old = filled W c.answer β old
 place_after W (Err e) β old = old
 
 -- the reply: at a build with the first W places
-abbrev pub completion_reply : ℕ → Result Completion Refusal → List ℕ → Reply
-completion_reply W (Ok c) place = said (end_by c.verdict (bits (take W place))) c.steps
+abbrev pub completion_reply : ℕ → Result (Counted Verdict) Refusal → List ℕ → Reply
+completion_reply W (Ok c) place = said (end_by c.answer (bits (take W place))) c.steps
 completion_reply W (Err e) place = refused (number_of e)
 
 -- the verdict and the place that belong to the build that is looked for, if there is one
@@ -49,6 +43,6 @@ VerdictRight W found Found old new = Settles W found Found old new
 VerdictRight W found NoBuild old new = Settles W found NoBuild old new
 VerdictRight W found Spent old new = new ≡ old
 
-abbrev pub FirstFound : ℕ → Option Build → Result Completion Refusal → List ℕ → List ℕ → Type 0
-FirstFound W found (Ok c) old new = VerdictRight W found c.verdict old new
+abbrev pub FirstFound : ℕ → Option Build → Result (Counted Verdict) Refusal → List ℕ → List ℕ → Type 0
+FirstFound W found (Ok c) old new = VerdictRight W found c.answer old new
 FirstFound W found (Err e) old new = new ≡ old

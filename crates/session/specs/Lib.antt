@@ -1,3 +1,4 @@
+pub mod Stands
 pub mod View
 pub mod Replies
 pub mod Checking

@@ -1,16 +1,5 @@
-// What a completion answers.
+// What a completion answers: the verdict, and the steps of this call alone. At `Build` the place handed in holds the build.
+use search::verdict::Counted;
+pub use search::verdict::Verdict;
 
-// The place handed in holds the build; there is none; or the budget is spent and one more step is needed.
-#[derive(Clone, Copy, PartialEq, Eq, Debug, Drop)]
-pub enum Verdict {
-    Build,
-    NoBuild,
-    Spent,
-}
-
-// The verdict, and the steps of this call alone.
-#[derive(Clone, Copy, PartialEq, Eq, Debug, Drop)]
-pub struct Completion {
-    pub verdict: Verdict,
-    pub steps: u64,
-}
+pub type Completion = Counted<Verdict>;

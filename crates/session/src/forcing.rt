@@ -1,18 +1,14 @@
 // What a question about one option answers.
+use search::verdict::Counted;
 
-// All builds that fulfil the order leave the option out; all take it; two of them differ there; there is none; or the budget is spent.
+// All builds that fulfil the order give the option this value; two of them differ there; there is none; or the budget is spent.
 #[derive(Clone, Copy, PartialEq, Eq, Debug, Drop)]
 pub enum Force {
-    Zero,
-    One,
+    Only(bool),
     Open,
     NoBuild,
     Spent,
 }
 
 // The answer, and the steps of all its searches.
-#[derive(Clone, Copy, PartialEq, Eq, Debug, Drop)]
-pub struct Forced {
-    pub answer: Force,
-    pub steps: u64,
-}
+pub type Forced = Counted<Force>;

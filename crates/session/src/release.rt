@@ -2,8 +2,9 @@
 ghost use Rattle.std.specs.Prelude.{◌≡◌, OnErr};
 ghost use Rattle.search_theory.specs.Calls.{refusal, Does, release as release_call};
 ghost use Rattle.search_theory.specs.Runs.{next_picks};
-ghost use Rattle.session.specs.View.{state_of, Stands};
-ghost use Rattle.session.specs.Replies.{cause_of, done_of};
+ghost use Rattle.session.specs.View.{state_of};
+ghost use Rattle.bank.specs.Asked.{cause_of};
+ghost use Rattle.session.specs.Replies.{done_of};
 
 use crate::session::Session;
 use bank::refusal::Refusal;
@@ -14,18 +15,18 @@ impl<B: RuleBank> Session<B> {
     pub fn release(&mut self, option: usize) -> Result<(), Refusal>
         ensures refusal { cause_of result ≡ refusal (B.meaning self.old.bank).width (state_of self.old) (release_call option) }
         ensures refused { OnErr result (self.new ≡ self.old) }
-        ensures picks { self.new.picks ≡ next_picks (B.meaning self.old.bank).width self.old.picks (release_call option) }
+        ensures picks { (state_of self.new).picks ≡ next_picks (B.meaning self.old.bank).width (state_of self.old).picks (release_call option) }
         ensures bank { self.new.bank ≡ self.old.bank }
         ensures does { Does (B.meaning self.old.bank) (state_of self.old) (release_call option) (done_of result) (state_of self.new) }
-        ensures kept { Stands (B.meaning self.old.bank) self.old → Stands (B.meaning self.old.bank) self.new }
     {
         if option >= self.bank.width() {
             return Err(Refusal::OptionOutside);
         }
-        if self.picks[option] > 1 {
+        let picked = self.picks[option];
+        if picked.is_none() {
             return Err(Refusal::NotPicked);
         }
-        self.picks[option] = 2;
+        self.picks[option] = None;
         self.searching = false;
         Ok(())
     }

@@ -23,18 +23,12 @@ mod tests {
 
     // Whether a completion ended so, within so many steps.
     fn ended(res: Result<Completion, Refusal>, verdict: Verdict, most: u64) -> bool {
-        match res {
-            Ok(completion) => completion.verdict == verdict && completion.steps <= most,
-            Err(_) => false,
-        }
+        res.is_ok_and(|completion| completion.answer == verdict && completion.steps <= most)
     }
 
     // Whether an option was found to be so.
     fn found(res: Result<Forced, Refusal>, answer: Force) -> bool {
-        match res {
-            Ok(forced) => forced.answer == answer,
-            Err(_) => false,
-        }
+        res.is_ok_and(|forced| forced.answer == answer)
     }
 
     // Whether a search is open: only then is a place that is too short the first fault of a resume.
@@ -83,9 +77,9 @@ mod tests {
         assert!(rt; found(session.forced(2, 100), Force::Open));
         assert!(rt; found(session.forced(2, 0), Force::Spent));
         assert!(rt; session.pick(0, 1).is_ok());
-        assert!(rt; found(session.forced(0, 100), Force::One));
-        assert!(rt; found(session.forced(1, 100), Force::Zero));
-        assert!(rt; found(session.forced(2, 100), Force::One));
+        assert!(rt; found(session.forced(0, 100), Force::Only(true)));
+        assert!(rt; found(session.forced(1, 100), Force::Only(false)));
+        assert!(rt; found(session.forced(2, 100), Force::Only(true)));
         assert!(rt; ended(session.complete(100, &mut place), Verdict::Build, 15));
         assert!(rt; place[0] == 1 && place[1] == 0 && place[2] == 1 && place[3] == 7);
         assert!(rt; session.pick(2, 0).is_ok());

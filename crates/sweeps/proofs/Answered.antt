@@ -1,7 +1,16 @@
--- What an answer of column and sweep tells of the places, for those who call them.
-use Rattle.std.proofs.Common.{◌≡◌, ℕ, ◌+◌, ◌≤◌, Bool, true, false, ◌&&◌, List, Ok, Result, refl, ap, ◌∙◌, arith}
-use Rattle.std.proofs.lemmas.Bool.{and_from, both_ways, le-leb}
-use Rattle.sweeps.specs.Replies.{room, column_reply, filled, column_place, sweep_reply}
+-- What the answers of root_of, column and sweep tell those who call them.
+use Rattle.std.proofs.Common.{◌≡◌, ℕ, ◌+◌, ◌≤◌, Bool, true, false, ◌&&◌, ltb, List, length, Ok, Err, Result, refl, ap, ◌∙◌, inl, inr, arith}
+use Rattle.std.proofs.lemmas.Bool.{cases_Bool, cond-true, cond-false, and_from, both_ways, le-leb}
+use Rattle.diagrams.specs.declared.row.Root.{Root}
+use Rattle.diagrams.specs.Roots.{root_at}
+use Rattle.sweeps.specs.Replies.{root_reply, room, column_reply, filled, column_place, sweep_reply}
+
+-- a root is that of a known rule
+pub rooted : (roots : List Root) (rule n : ℕ) → Ok n ≡ root_reply roots rule → (ltb rule (length roots) ≡ true) × (n ≡ (root_at roots rule).node)
+rooted roots rule n e = elim (cases_Bool (ltb rule (length roots))) [
+  | inl k ↦ (k, let h : Ok n ≡ Ok (root_at roots rule).node = e ∙ cond-true _ _ _ k in cc)
+  | inr k ↦ absurd (let h : Ok n ≡ Err 7 = e ∙ cond-false _ _ _ k in cc)
+]
 
 -- an answer that is no refusal had room
 pub had_room : (b : Bool) → Ok tt ≡ column_reply b → b ≡ true

@@ -1,6 +1,12 @@
--- What column and sweep answer, and what the places handed in hold then.
-use Rattle.std.specs.Prelude.{ℕ, ◌+◌, Bool, true, false, ◌&&◌, List, ◌++◌, map, drop, Ok, Err, Result, nat_le}
+-- What root_of, column and sweep answer, and what the places handed in hold then.
+use Rattle.std.specs.Prelude.{ℕ, ◌+◌, Bool, true, false, cond, ◌&&◌, List, ◌++◌, length, map, drop, Ok, Err, Result, nat_le, nat_lt}
 use Rattle.std.specs.List.{range_with_len}
+use Rattle.diagrams.specs.declared.row.Root.{Root}
+use Rattle.diagrams.specs.Roots.{root_at}
+
+-- the node of the root; no such rule 7
+abbrev pub root_reply : List Root → ℕ → Result ℕ ℕ
+root_reply roots rule = cond (nat_lt rule (length roots)) (Ok (root_at roots rule).node) (Err 7)
 
 -- so many weights for 0 and for 1, and so many places, are enough for w options and the rows in use
 abbrev pub room : ℕ → ℕ → ℕ → ℕ → ℕ → Bool

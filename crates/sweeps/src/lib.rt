@@ -3,5 +3,7 @@
 
 pub mod column;
 pub mod node;
+pub mod root;
 pub mod semiring;
 pub mod sweep;
+pub mod weights;

@@ -2,12 +2,13 @@
 ghost use Rattle.std.specs.Prelude.{◌≡◌, ℕ, ◌+◌, ◌&&◌, length, nat_lt};
 ghost use Rattle.bank.specs.Numbers.{numbered};
 ghost use Rattle.diagrams.specs.Roots.{root_at};
-ghost use Rattle.diagram_theory.specs.Semirings.{weights, node_sum, sweep_of};
+ghost use Rattle.diagram_theory.specs.Semirings.{weights as weighing, node_sum, sweep_of};
 ghost use Rattle.sweeps.specs.Replies.{room, sweep_reply, column_place};
 
 use crate::column::column;
-use crate::node::{jumped, option_of};
+use crate::root::root_of;
 use crate::semiring::Semiring;
+use crate::weights::{Weighed, Weights};
 use bank::refusal::Refusal;
 use diagrams::table::Diagrams;
 
@@ -15,17 +16,13 @@ use diagrams::table::Diagrams;
 pub fn sweep<S: Semiring + Copy>(
     bank: &Diagrams<'_>,
     rule: usize,
-    low: &[S],
-    high: &[S],
+    weights: &Weights<'_, S>,
     places: &mut [S],
 ) -> Result<S, Refusal>
-    ensures answer { numbered result ≡ sweep_reply (nat_lt rule bank.now.root_count) (room bank.now.width bank.now.used (length low.now) (length high.now) (length places.old)) (sweep_of (weights S.zero S.one S.plus S.times low.now high.now) bank.now.width bank.now.rows.now (root_at bank.now.roots rule).node) }
-    ensures after { places.new ≡ column_place (nat_lt rule bank.now.root_count && room bank.now.width bank.now.used (length low.now) (length high.now) (length places.old)) (node_sum (weights S.zero S.one S.plus S.times low.now high.now) bank.now.width bank.now.rows.now) (bank.now.used + 2) places.old }
+    ensures answer { numbered result ≡ sweep_reply (nat_lt rule (length bank.now.roots.items)) (room bank.now.width bank.now.used (length weights.now.low.now) (length weights.now.high.now) (length places.old)) (sweep_of (weighing S.zero S.one S.plus S.times weights.now.low.now weights.now.high.now) bank.now.width bank.now.rows.now (root_at bank.now.roots.items rule).node) }
+    ensures after { places.new ≡ column_place (nat_lt rule (length bank.now.roots.items) && room bank.now.width bank.now.used (length weights.now.low.now) (length weights.now.high.now) (length places.old)) (node_sum (weighing S.zero S.one S.plus S.times weights.now.low.now weights.now.high.now) bank.now.width bank.now.rows.now) (bank.now.used + 2) places.old }
 {
-    if rule >= bank.root_count {
-        return Err(Refusal::NoSuchRule);
-    }
-    column(bank, low, high, places)?;
-    let root = bank.roots[rule].node as usize;
-    Ok(jumped(low, high, 0, option_of(bank, root), places[root]))
+    let root = root_of(bank, rule)?;
+    column(bank, weights, places)?;
+    Ok(Weighed { bank, weights }.through(places, 0, root))
 }

@@ -1,60 +1,121 @@
 -- The line with a number, one line on.
-use Rattle.std.proofs.Common.{◌≡◌, ℕ, zero, suc, ◌+◌, ◌-◌, ◌≤◌, Bool, true, false, cond, List, [], ◌∷◌, length, drop, Some, None, sym, refl, ap, ◌∙◌, arith}
-use Rattle.std.proofs.lemmas.List.{length-take-le, length-drop}
-use Rattle.lines.specs.declared.place.LinePlace.{LinePlace}
-use Rattle.lines.specs.Lines.{Line}
-use Rattle.lines.specs.Places.{line_at, next_start}
-use Rattle.texts.specs.Places.{place_from, line_numbered}
+use Rattle.std.proofs.Common.{◌≡◌, ◌≢◌, ℕ, zero, suc, ◌+◌, ◌-◌, Bool, true, false, cond, List, [], ◌∷◌, ◌++◌, length, take, drop, Some, None, sym, refl, ap, ◌∙◌, subst, append_assoc, zero-add, add-zero, arith}
+use Rattle.std.proofs.lemmas.List.{length-append, drop-drop, take_at, drop_at}
+use Rattle.lines.specs.Lines.{Line, lines_of}
+use Rattle.lines.specs.Places.{line_at}
+use Rattle.lines.proofs.Parts.{first_and_rest}
+use Rattle.texts.specs.Places.{place_from, place_of, line_numbered}
 
--- no line has the number 0
-pub place_none : (at : ℕ) (ls : List Line) → place_from at 0 ls ≡ None
-unfolding place_from
-place_none at ls = refl
+-- the number of bytes that a line takes, with its LF
+abbrev pub taken : Line → ℕ
+taken l = length l.bytes + cond l.closed 1 0
 
-pub numbered_none : (ls : List Line) → line_numbered 0 ls ≡ None
-unfolding line_numbered
-numbered_none ls = refl
+pub taken_closed : (l : Line) → l.closed ≡ true → taken l ≡ length l.bytes + 1
+taken_closed l e = ap (λ b. length l.bytes + cond b 1 0) e
 
-pub numbered_here : (l : Line) (ls : List Line) → line_numbered 1 (l ∷ ls) ≡ Some l
-unfolding line_numbered
-numbered_here l ls = refl
+pub taken_open : (l : Line) → l.closed ≡ false → taken l ≡ length l.bytes
+taken_open l e = ap (λ b. length l.bytes + cond b 1 0) e ∙ add-zero (length l.bytes)
 
-pub numbered_later : (n : ℕ) (l : Line) (ls : List Line) → 2 ≤ n → line_numbered n (l ∷ ls) ≡ line_numbered (n - 1) ls
-unfolding line_numbered
-numbered_later zero l ls h = absurd (omega arith)
-numbered_later (suc zero) l ls h = absurd (omega arith)
-numbered_later (suc (suc n)) l ls h = let z : suc (suc n) - 1 ≡ suc n = omega arith in ap (λ k. line_numbered k ls) (sym z)
+-- how far a text has been read in search of a line: `before` lines were none
+pub record Placing (text : List ℕ) (number before start : ℕ) (rest : List ℕ) : Type 0 where
+  pub inside : start + length rest ≡ length text
+  pub left : drop start text ≡ rest
+  pub place : place_from start (number - before) (lines_of rest) ≡ place_of number text
+  pub line : line_numbered (number - before) (lines_of rest) ≡ line_numbered number (lines_of text)
 
-module _ (text : List ℕ) (p : LinePlace) (le : p.start ≤ p.end) (in-text : p.end ≤ length text) where
-  -- the line reaches from its start to its end
-  pub line_ends : p.start + length (line_at text p).bytes ≡ p.end
-  line_ends =
-      let e : length (line_at text p).bytes ≡ p.end - p.start = length-take-le (p.end - p.start) (drop p.start text) (rw length-drop (omega arith)) in
-      omega arith
-
-  pub place_here : (ls : List Line) → place_from p.start 1 (line_at text p ∷ ls) ≡ Some p
-  unfolding place_from
-  place_here ls = ap (λ e. Some (record { start = p.start; end = e; closed = p.closed })) line_ends
-
-  next_is : (b : Bool) → p.start + length (line_at text p).bytes + cond b 1 0 ≡ cond b (p.end + 1) p.end
-  next_is true = let e = line_ends in omega arith
-  next_is false = let e = line_ends in omega arith
-
-  pub place_later : (n : ℕ) (ls : List Line) → 2 ≤ n → place_from p.start n (line_at text p ∷ ls) ≡ place_from (next_start p) (n - 1) ls
-  unfolding place_from
-  place_later zero ls h = absurd (omega arith)
-  place_later (suc zero) ls h = absurd (omega arith)
-  place_later (suc (suc n)) ls h =
-      let z : suc (suc n) - 1 ≡ suc n = omega arith in
-      ap (λ at. place_from at (suc n) ls) (next_is p.closed) ∙ ap (λ k. place_from (next_start p) k ls) (sym z)
+pub placing_begun : (text rest : List ℕ) (number before : ℕ) → rest ≡ text → before ≡ 0 → Placing text number before 0 rest
+placing_begun text rest number before e z =
+    let P : List ℕ → Type 0 = λ t. Placing text number before 0 t in
+    let y : number - before ≡ number = omega arith in
+    subst P (sym e) (record { inside = zero-add (length text); left = refl; place = ap (λ k. place_from 0 k (lines_of text)) y; line = ap (λ k. line_numbered k (lines_of text)) y })
 
 -- past the last line
-pub place_past : (at n : ℕ) → place_from at n [] ≡ None
+place_past : (at n : ℕ) → place_from at n [] ≡ None
 unfolding place_from
 place_past at zero = refl
 place_past at (suc n) = refl
 
-pub numbered_past : (n : ℕ) → line_numbered n [] ≡ None
+numbered_past : (n : ℕ) → line_numbered n [] ≡ None
 unfolding line_numbered
 numbered_past zero = refl
 numbered_past (suc n) = refl
+
+-- another line than the first
+place_later : (at n : ℕ) (l : Line) (ls : List Line) → n ≢ 1 → place_from at n (l ∷ ls) ≡ place_from (at + taken l) (n - 1) ls
+unfolding place_from
+place_later at zero l ls ne = refl
+place_later at (suc zero) l ls ne = absurd (ne refl)
+place_later at (suc (suc n)) l ls ne =
+    let z : suc (suc n) - 1 ≡ suc n = omega arith in
+    let y : at + length l.bytes + cond l.closed 1 0 ≡ at + taken l = omega arith in
+    ap (λ k. place_from k (suc n) ls) y ∙ ap (λ k. place_from (at + taken l) k ls) (sym z)
+
+numbered_later : (n : ℕ) (l : Line) (ls : List Line) → n ≢ 1 → line_numbered n (l ∷ ls) ≡ line_numbered (n - 1) ls
+unfolding line_numbered
+numbered_later zero l ls ne = refl
+numbered_later (suc zero) l ls ne = absurd (ne refl)
+numbered_later (suc (suc n)) l ls ne = let z : suc (suc n) - 1 ≡ suc n = omega arith in ap (λ k. line_numbered k ls) (sym z)
+
+lf_length : (b : Bool) → length {A = ℕ} (cond b (10 ∷ []) []) ≡ cond b 1 0
+lf_length true = refl
+lf_length false = refl
+
+module _ (text : List ℕ) (number before start : ℕ) (rest : List ℕ) (so_far : Placing text number before start rest) where
+  -- there is no line
+  module _ (end : lines_of rest ≡ []) where
+    pub none_placed : None ≡ place_of number text
+    none_placed = sym (place_past start (number - before)) ∙ ap (place_from start (number - before)) (sym end) ∙ so_far.place
+
+    pub none_numbered : None ≡ line_numbered number (lines_of text)
+    none_numbered = sym (numbered_past (number - before)) ∙ ap (line_numbered (number - before)) (sym end) ∙ so_far.line
+
+  module _ (later : List ℕ) (l : Line) (next : lines_of rest ≡ l ∷ lines_of later) where
+    front : List ℕ
+    front = l.bytes ++ cond l.closed (10 ∷ []) []
+
+    whole : rest ≡ l.bytes ++ (cond l.closed (10 ∷ []) [] ++ later)
+    whole = first_and_rest rest later l next
+
+    long : length front ≡ taken l
+    unfolding front
+    long = length-append l.bytes (cond l.closed (10 ∷ []) []) ∙ ap (λ n. length l.bytes + n) (lf_length l.closed)
+
+    parted : rest ≡ front ++ later
+    unfolding front
+    parted = whole ∙ sym (append_assoc l.bytes (cond l.closed (10 ∷ []) []) later)
+
+    -- the line and its LF stand in the text
+    pub within : start + taken l + length later ≡ length text
+    within = let a = ap length parted in let b = length-append front later in let c = long in let d = so_far.inside in omega arith
+
+    -- it is another line than the one that is looked for
+    pub placing_on : (now begin : ℕ) → now ≡ before + 1 → now ≢ number → begin ≡ start + taken l → Placing text number now begin later
+    placing_on now begin n ne b =
+        let other : number - before ≢ 1 = λ e. ne (omega arith) in
+        let z : number - now ≡ number - before - 1 = omega arith in
+        let P : ℕ → Type 0 = λ k. Placing text number now k later in
+        subst P (sym b) (record {
+          inside = within;
+          left = sym (drop-drop (taken l) start text) ∙ ap (drop (taken l)) (so_far.left ∙ parted) ∙ drop_at front later (taken l) long;
+          place = ap (λ k. place_from (start + taken l) k (lines_of later)) z ∙ sym (place_later start (number - before) l (lines_of later) other)
+              ∙ ap (place_from start (number - before)) (sym next) ∙ so_far.place;
+          line = ap (λ k. line_numbered k (lines_of later)) z ∙ sym (numbered_later (number - before) l (lines_of later) other)
+              ∙ ap (line_numbered (number - before)) (sym next) ∙ so_far.line;
+        })
+
+    module _ (e : before + 1 ≡ number) where
+      one : 1 ≡ number - before
+      one = omega arith
+
+      pub line_placed : Some (record { start = start; end = start + length l.bytes; closed = l.closed }) ≡ place_of number text
+      unfolding place_from
+      line_placed = ap (place_from start 1) (sym next) ∙ ap (λ k. place_from start k (lines_of rest)) one ∙ so_far.place
+
+      pub line_there : Some (line_at text (record { start = start; end = start + length l.bytes; closed = l.closed })) ≡ line_numbered number (lines_of text)
+      unfolding line_numbered
+      line_there =
+          let n : start + length l.bytes - start ≡ length l.bytes = omega arith in
+          let b : take (start + length l.bytes - start) (drop start text) ≡ l.bytes =
+          ap (λ k. take k (drop start text)) n ∙ ap (take (length l.bytes)) (so_far.left ∙ whole) ∙ take_at l.bytes (cond l.closed (10 ∷ []) [] ++ later) (length l.bytes) refl in
+          ap (λ t. Some (record { bytes = t; closed = l.closed })) b
+          ∙ ap (line_numbered 1) (sym next) ∙ ap (λ k. line_numbered k (lines_of rest)) one ∙ so_far.line

@@ -1,5 +1,5 @@
 -- What a result was before its fault got its line.
-use Rattle.std.proofs.Common.{◌≡◌, ℕ, Ok, Err, Result, refl, arith}
+use Rattle.std.proofs.Common.{◌≡◌, ℕ, Some, Ok, Err, Result, refl, arith}
 use Rattle.texts.specs.declared.faults.Text.{Text}
 use Rattle.texts.specs.declared.faults.AtLine.{AtLine}
 use Rattle.texts.specs.Causes.{placed_at}
@@ -9,6 +9,6 @@ module _ {X E : Type 0} (t : Text) (n : ℕ) where
   placed_ok (Ok y) x e = cc
   placed_ok (Err f) x e = absurd (let z : ◌≡◌ {A = ℕ} 0 1 = cc in omega arith)
 
-  pub placed_err : (r : Result X E) (z : AtLine E) → Err z ≡ placed_at t n r → (f : E) × (r ≡ Err f) × (z ≡ record { text = t; line = n; fault = f })
+  pub placed_err : (r : Result X E) (z : AtLine E) → Err z ≡ placed_at t n r → (f : E) × (r ≡ Err f) × (z ≡ record { text = Some t; line = Some n; cause = f })
   placed_err (Ok y) z e = absurd (let q : ◌≡◌ {A = ℕ} 0 1 = cc in omega arith)
   placed_err (Err f) z e = (f, refl, cc)

@@ -1,3 +1,4 @@
+pub mod Arrays
 pub mod Tables
 pub mod Rings
 pub mod Starts

@@ -1,36 +1,37 @@
 -- The table of entries, entry by entry: what is read off it, and what a write to it leaves.
-use Rattle.std.proofs.Common.{◌≡◌, ℕ, zero, suc, ◌+◌, ◌<◌, ◌≤◌, Bool, true, false, cond, eqb, leb, ◌≢◌, List, [], ◌∷◌, ◌++◌, map, length, get_or, take, drop, set, sym, refl, ap, ◌∙◌, subst, arith}
-use mathlib.Core.Bool.{false≢true}
+use Rattle.std.proofs.Common.{◌≡◌, ℕ, zero, suc, ◌+◌, ◌<◌, ◌≤◌, Bool, true, false, cond, leb, ◌≢◌, List, [], ◌∷◌, ◌++◌, map, length, get_or, take, drop, set, Some, None, Option, option_map, is_some, MatchOption, sym, refl, ap, ◌∙◌, arith}
 use mir.Val.{bool_byte}
 use Rattle.std.specs.List.{range_with_len}
-use Rattle.std.proofs.lemmas.Bool.{eqb-true, eq-eqb, cond-true, cond-false, le-leb, lt-leb}
-use Rattle.std.proofs.lemmas.List.{get_or-set_same, get_or-set_other, get_or_default, get_or-map, length-map, length-append, take-append-drop, take_all, drop_all, append-nil, drop-drop, drop-set-lt, ext_get_or}
-use Rattle.std.proofs.lemmas.List.Edits.{map_over_more, fill_by_more}
-use Rattle.std.proofs.lemmas.List.Prefix.{front_from_reads}
-use Rattle.std.proofs.lemmas.List.FromFn.{length-map-range_with_len, get_or-map-range_with_len}
+use Rattle.std.proofs.lemmas.Bool.{cond-true, le-leb}
+use Rattle.std.proofs.lemmas.List.{get_or-set_same, get_or-set_other, get_or_default, get_or-map, length-map, length-append, take-append-drop, ext_get_or}
+use Rattle.std.proofs.lemmas.List.Edits.{map_over_more}
+use Rattle.std.proofs.lemmas.List.FromFn.{fill_by_all, length-map-range_with_len, get_or-map-range_with_len}
 use Rattle.builds.specs.Values.{num}
-use Rattle.search_theory.specs.Trails.{Entry, unset, picked, decided, implied, is_unset, level, value, cut, Trail, start_entry, read}
+use Rattle.search_theory.specs.Trails.{unset, decided, level, value, cut, Trail, start_entry, read, Full}
 use Rattle.search_theory.specs.Searches.{shown, values_from}
 use Rattle.search_theory.proofs.Sound.{cut_keeps, length_read, read_bit}
 use Rattle.search_theory.proofs.Banks.{length_values, at_values}
 use Rattle.trail.specs.declared.entry.Entry.{Entry as Row}
-use Rattle.trail.specs.View.{trail_of, entry_of, open_row}
-use Rattle.trail.specs.Rows.{start_row, kept_row, is_decided}
+use Rattle.trail.specs.declared.entry.Entry.TheVariants.{Picked, Decided, Implied}
+use Rattle.search_theory.specs.Values.{value_number}
+use Rattle.search_theory.proofs.Values.{byte_num}
+use Rattle.trail.specs.View.{trail_of, entry_of}
+use Rattle.trail.specs.Rows.{start_row, kept_row, Lowest, Last, NoLast}
 use Rattle.trail.specs.Building.{handed}
 
 -- a write changes the entry of its option alone
-pub trail_set : (t : List Row) (o : ℕ) (e : Row) → o < length t → trail_of (set t o e) o ≡ entry_of e
-trail_set t o e l = ap entry_of (get_or-set_same t o e open_row l)
+pub trail_set : (t : List (Option Row)) (o : ℕ) (e : Option Row) → o < length t → trail_of (set t o e) o ≡ entry_of e
+trail_set t o e l = ap entry_of (get_or-set_same t o e None l)
 
-pub trail_set_other : (t : List Row) (o i : ℕ) (e : Row) → i ≢ o → trail_of (set t o e) i ≡ trail_of t i
-trail_set_other t o i e n = ap entry_of (get_or-set_other t o i e open_row n)
+pub trail_set_other : (t : List (Option Row)) (o i : ℕ) (e : Option Row) → i ≢ o → trail_of (set t o e) i ≡ trail_of t i
+trail_set_other t o i e n = ap entry_of (get_or-set_other t o i e None n)
 
 -- what is left of every entry after a cut
-pub trail_kept : (k : ℕ) (t : List Row) (i : ℕ) → trail_of (map (kept_row k) t) i ≡ cut k (trail_of t i)
+pub trail_kept : (k : ℕ) (t : List (Option Row)) (i : ℕ) → trail_of (map (kept_row k) t) i ≡ cut k (trail_of t i)
 trail_kept k [] i = sym (cut_keeps k unset (omega arith))
 trail_kept k (e ∷ t) zero = one (leb (level (entry_of e)) k)
   where
-    one : (b : Bool) → entry_of (cond b e open_row) ≡ cond b (entry_of e) unset
+    one : (b : Bool) → entry_of (cond b e None) ≡ cond b (entry_of e) unset
     one true = refl
     one false = refl
 trail_kept k (e ∷ t) (suc i) = trail_kept k t i
@@ -43,29 +44,39 @@ trail_start (suc zero ∷ ps) zero = refl
 trail_start (suc (suc n) ∷ ps) zero = refl
 trail_start (p ∷ ps) (suc i) = trail_start ps i
 
-is_open : (e : Entry) → is_unset e ≡ true → e ≡ unset
-is_open unset h = refl
-is_open (picked v) h = absurd (false≢true h)
-is_open (decided j) h = absurd (false≢true h)
-is_open (implied v j s) h = absurd (false≢true h)
+-- a pick's entry, by the pick and by its number
+start_number : (p : Option Bool) → option_map Picked p ≡ start_row (value_number p)
+start_number None = refl
+start_number (Some false) = refl
+start_number (Some true) = refl
 
-is_decision : (k : ℕ) (e : Entry) → is_decided k e ≡ true → e ≡ decided k
-is_decision k unset h = absurd (false≢true h)
-is_decision k (picked v) h = absurd (false≢true h)
-is_decision k (decided j) h = ap decided (eqb-true j k h)
-is_decision k (implied v j s) h = absurd (false≢true h)
+pub start_numbers : (ps : List (Option Bool)) → map (option_map Picked) ps ≡ map start_row (map value_number ps)
+start_numbers [] = refl
+start_numbers (p ∷ ps) = ap (λ e. e ∷ map (option_map Picked) ps) (start_number p) ∙ ap (λ es. start_row (value_number p) ∷ es) (start_numbers ps)
 
-pub found_open : (t : List Row) (i : ℕ) → true ≡ is_unset (trail_of t i) → trail_of t i ≡ unset
-found_open t i e = is_open (trail_of t i) (sym e)
+-- the entries of the picks, index by index
+pub picks_read : (n : ℕ) (ps : List (Option Bool)) → length ps ≡ n → map (option_map Picked) ps ≡ map (λ i. option_map Picked (get_or ps i None)) (range_with_len 0 n)
+picks_read n ps l = fill_by_all (λ i. option_map Picked (get_or ps i None)) (map (option_map Picked) ps) n None (length-map ps (option_map Picked) ∙ l) (λ k m. get_or-map (option_map Picked) ps k None None (omega arith))
 
-pub not_open : (t : List Row) (i : ℕ) → false ≡ is_unset (trail_of t i) → trail_of t i ≢ unset
-not_open t i e q = false≢true (e ∙ ap is_unset q)
+-- what a test for a value says of the trail
+pub open_is : (e : Option Row) → is_some e ≡ false → entry_of e ≡ unset
+open_is None h = refl
+open_is (Some e) h = cc
 
-pub found_decision : (t : List Row) (i k : ℕ) → true ≡ is_decided k (trail_of t i) → trail_of t i ≡ decided k
-found_decision t i k e = is_decision k (trail_of t i) (sym e)
+pub valued_is : (e : Option Row) → is_some e ≡ true → entry_of e ≢ unset
+valued_is None h = cc
+valued_is (Some (Picked v)) h = λ q. cc
+valued_is (Some (Decided k)) h = λ q. cc
+valued_is (Some (Implied v k s)) h = λ q. cc
 
-pub not_decision : (t : List Row) (i k : ℕ) → false ≡ is_decided k (trail_of t i) → trail_of t i ≢ decided k
-not_decision t i k e q = false≢true (e ∙ ap (is_decided k) q ∙ eq-eqb k k refl)
+-- what a search of the options from 0 on found
+pub lowest_found : (w : ℕ) (t : Trail) (r : Option ℕ) → MatchOption r ((k : ℕ) → 0 ≤ k → k < w → t k ≢ unset) (λ i. (0 ≤ i) × (i < w) × (t i ≡ unset) × ((k : ℕ) → 0 ≤ k → k < i → t k ≢ unset)) → MatchOption r (Full w t) (Lowest w t)
+lowest_found w t None h = λ k. h k (omega arith)
+lowest_found w t (Some i) h = record { within = h.1; free = h.2; lowest = λ k. h.3 k (omega arith) }
+
+pub last_found : (w : ℕ) (t : Trail) (d : ℕ) (r : Option ℕ) → 0 < d → MatchOption r ((k : ℕ) → 0 ≤ k → k < w → t k ≢ decided d) (λ i. (0 ≤ i) × (i < w) × (t i ≡ decided d) × ((k : ℕ) → 0 ≤ k → k < i → t k ≢ decided d)) → MatchOption r (NoLast w t d) (Last w t d)
+last_found w t d None p h = λ q k. h k (omega arith)
+last_found w t d (Some i) p h = record { stands = p; within = h.1; decision = h.2 }
 
 -- the values of a trail as a list made from a function of the option
 pub values_made : (n : ℕ) (t : Trail) → values_from n 0 t ≡ map (λ i. shown (t i)) (range_with_len 0 n)
@@ -73,47 +84,22 @@ values_made n t =
     ext_get_or 2 (values_from n 0 t) (map (λ i. shown (t i)) (range_with_len 0 n)) (length_values n 0 t ∙ sym (length-map-range_with_len (λ i. shown (t i)) 0 n))
     (λ k l. (let h : k < n = omega (arith, length_values n 0 t) in at_values n t k h ∙ sym (get_or-map-range_with_len (λ i. shown (t i)) 0 n k k 2 h (omega arith))))
 
--- a value as the build has it: 1 or 0
-shown_one : (e : Entry) → bool_byte (eqb (shown e) 1) ≡ num (value e)
-shown_one unset = refl
-shown_one (picked true) = refl
-shown_one (picked false) = refl
-shown_one (decided j) = refl
-shown_one (implied true j s) = refl
-shown_one (implied false j s) = refl
-
--- one more place of the build
-pub build_more : (t : Trail) (old new : List ℕ) (i x : ℕ) → i < length new → x ≡ shown (t i) → ((k : ℕ) → k < i → get_or new k 0 ≡ num (value (t k))) → drop i new ≡ drop i old →
-    ((k : ℕ) → k < i + 1 → get_or (set new i (bool_byte (eqb x 1))) k 0 ≡ num (value (t k))) × (drop (i + 1) (set new i (bool_byte (eqb x 1))) ≡ drop (i + 1) old)
-build_more t old new i x l e f d =
-    let b : bool_byte (eqb x 1) ≡ num (value (t i)) = ap (λ z. bool_byte (eqb z 1)) e ∙ shown_one (t i) in
-    let r : drop (i + 1) new ≡ drop (i + 1) old = sym (drop-drop 1 i new) ∙ ap (drop 1) d ∙ drop-drop 1 i old in
-    (subst (λ z. (k : ℕ) → k < i + 1 → get_or (set new i z) k 0 ≡ num (value (t k))) (sym b) (fill_by_more (λ k. num (value (t k))) new i 0 l f), drop-set-lt (i + 1) new i (bool_byte (eqb x 1)) (omega arith) ∙ r)
-
--- a place with room has the build in front, and the rest as it was; a shorter one stays
-pub handed_room : (w : ℕ) (t : Trail) (place : List ℕ) → w ≤ length place → handed w t place ≡ map num (read w t) ++ drop w place
-handed_room w t place l = cond-true (leb w (length place)) (map num (read w t) ++ drop w place) place (le-leb w (length place) l)
-
-pub handed_short : (w : ℕ) (t : Trail) (place : List ℕ) → length place < w → handed w t place ≡ place
-handed_short w t place l = cond-false (leb w (length place)) (map num (read w t) ++ drop w place) place (lt-leb w (length place) l)
+-- an option's value as the build has it: an open option reads 0
+pub value_bit : (e : Option Row) (v : Bool) → MatchOption e (v ≡ false) (λ x. v ≡ value (entry_of (Some x))) → bool_byte v ≡ num (value (entry_of e))
+value_bit None v h = ap bool_byte h
+value_bit (Some x) v h = byte_num v ∙ ap num h
 
 -- the places that were written, and the rest
-pub build_written : (w : ℕ) (t : Trail) (old new : List ℕ) → w ≤ length old → length new ≡ length old → ((k : ℕ) → k < w → get_or new k 0 ≡ num (value (t k))) → drop w new ≡ drop w old → new ≡ handed w t old
-build_written w t old new l n f d =
-    let ln : length (map num (read w t)) ≡ w = length-map (read w t) num ∙ length_read w 0 t in
-    let at : (i : ℕ) → i < length (map num (read w t)) → get_or new i 0 ≡ get_or (map num (read w t)) i 0 = λ i k.
-    (let m : i < w = omega arith in let b : i < length (read w t) = omega (arith, length_read w 0 t) in
-    f i m ∙ ap num (sym (read_bit w t i m)) ∙ sym (get_or-map num (read w t) i false 0 b)) in
-    front_from_reads 0 new (map num (read w t)) (omega arith) at ∙ ap (λ z. map num (read w t) ++ drop z new) ln ∙ ap (λ z. map num (read w t) ++ z) d ∙ sym (handed_room w t old l)
+pub build_written : (w : ℕ) (t : Trail) (old bits : List ℕ) → w ≤ length old → length bits ≡ w → ((k : ℕ) → k < w → get_or bits k 0 ≡ num (value (t k))) → bits ++ drop w old ≡ handed w t old
+build_written w t old bits l n f =
+    let r : length (read w t) ≡ w = length_read w 0 t in
+    let e : bits ≡ map num (read w t) = ext_get_or 0 bits (map num (read w t)) (n ∙ sym (length-map (read w t) num ∙ r)) (λ i k. (let m : i < w = omega arith in let b : i < length (read w t) = omega arith in
+    f i m ∙ ap num (sym (read_bit w t i m)) ∙ sym (get_or-map num (read w t) i false 0 b))) in
+    ap (λ z. z ++ drop w old) e ∙ sym (cond-true (leb w (length old)) (map num (read w t) ++ drop w old) old (le-leb w (length old) l))
 
--- one more entry of a cut, and the end of it
-module _ (k : ℕ) (old new : List Row) (i : ℕ) where
-  pub cut_more : (e d : Row) → i < length new → new ≡ map (kept_row k) (take i old) ++ drop i old → e ≡ kept_row k (get_or new i d) →
-      (length old ≡ length new) × (set new i e ≡ map (kept_row k) (take (i + 1) old) ++ drop (i + 1) old)
-  cut_more e d l h f =
-      let n : length new ≡ length old =
-      ap length h ∙ length-append (map (kept_row k) (take i old)) (drop i old) ∙ ap (λ z. z + length (drop i old)) (length-map (take i old) (kept_row k)) ∙ sym (length-append (take i old) (drop i old)) ∙ ap length (take-append-drop i old) in
-      (sym n, ap (set new i) f ∙ map_over_more (kept_row k) old new i (get_or new i d) (omega arith) h (get_or_default new i d (get_or new i d) l))
-
-  pub cut_all : length old ≤ i → new ≡ map (kept_row k) (take i old) ++ drop i old → new ≡ map (kept_row k) old
-  cut_all l h = h ∙ ap (λ z. map (kept_row k) (take i old) ++ z) (drop_all i old l) ∙ append-nil (map (kept_row k) (take i old)) ∙ ap (map (kept_row k)) (take_all i old l)
+-- one more entry of a cut
+pub cut_more : (k : ℕ) (old new : List (Option Row)) (i : ℕ) (e : Option Row) → i < length old → new ≡ map (kept_row k) (take i old) ++ drop i old → e ≡ kept_row k (get_or new i None) → set new i e ≡ map (kept_row k) (take (i + 1) old) ++ drop (i + 1) old
+cut_more k old new i e l h f =
+    let n : length new ≡ length old =
+    ap length h ∙ length-append (map (kept_row k) (take i old)) (drop i old) ∙ ap (λ z. z + length (drop i old)) (length-map (take i old) (kept_row k)) ∙ sym (length-append (take i old) (drop i old)) ∙ ap length (take-append-drop i old) in
+    ap (set new i) f ∙ map_over_more (kept_row k) old new i (get_or new i None) l h (get_or_default new i None (get_or new i None) (omega arith))

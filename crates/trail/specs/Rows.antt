@@ -1,36 +1,29 @@
 -- The entries that a search writes, and what it reads off the trail.
-use Rattle.std.specs.Prelude.{◌≡◌, ℕ, zero, suc, ◌<◌, Bool, false, cond, ◌≢◌, List, [], ◌∷◌, Some, None, Option, ◌==◌, nat_le}
+use Rattle.std.specs.Prelude.{◌≡◌, ℕ, zero, suc, ◌<◌, Bool, true, false, cond, ◌≢◌, List, [], ◌∷◌, Some, None, Option, nat_le}
 use Rattle.clauses.specs.declared.literal.Literal.{Literal}
-use Rattle.search_theory.specs.Trails.{Entry, unset, picked, decided, implied, level, Trail}
+use Rattle.search_theory.specs.Trails.{unset, decided, level, Trail}
 use Rattle.trail.specs.declared.entry.Source.{Source as RuleFrom}
-use Rattle.trail.specs.declared.entry.Origin.TheVariants.{Pick, Decision, Rule}
 use Rattle.trail.specs.declared.entry.Entry.{Entry as Row}
-use Rattle.trail.specs.View.{entry_of, open_row}
+use Rattle.trail.specs.declared.entry.Entry.TheVariants.{Picked, Decided, Implied}
+use Rattle.trail.specs.View.{entry_of}
 
--- the entry of a pick, and of no pick
-abbrev pub start_row : ℕ → Row
-start_row zero = record { value = 0; origin = Some Pick; level = 0 }
-start_row (suc zero) = record { value = 1; origin = Some Pick; level = 0 }
-start_row (suc (suc n)) = open_row
+-- the entry of a pick by its number, and of no pick
+abbrev pub start_row : ℕ → Option Row
+start_row zero = Some (Picked false)
+start_row (suc zero) = Some (Picked true)
+start_row (suc (suc n)) = None
 
 -- the entry of a decision at level k
-abbrev pub decision_row : ℕ → Row
-decision_row k = record { value = 0; origin = Some Decision; level = k }
+abbrev pub decision_row : ℕ → Option Row
+decision_row k = Some (Decided k)
 
 -- the entry of a value that a rule gave at level k
-abbrev pub rule_row : ℕ → ℕ → RuleFrom → Row
-rule_row v k s = record { value = v; origin = Some (Rule s); level = k }
+abbrev pub rule_row : Bool → ℕ → RuleFrom → Option Row
+rule_row v k s = Some (Implied v k s)
 
 -- what is left of an entry once the decisions above level k are gone
-abbrev pub kept_row : ℕ → Row → Row
-kept_row k e = cond (nat_le (level (entry_of e)) k) e open_row
-
--- the entry is the decision of level k
-abbrev pub is_decided : ℕ → Entry → Bool
-is_decided k unset = false
-is_decided k (picked v) = false
-is_decided k (decided j) = j == k
-is_decided k (implied v j s) = false
+abbrev pub kept_row : ℕ → Option Row → Option Row
+kept_row k e = cond (nat_le (level (entry_of e)) k) e None
 
 -- the lowest open option of the first W
 pub record Lowest (W : ℕ) (t : Trail) (o : ℕ) : Type 0 where

@@ -3,6 +3,7 @@ ghost use Rattle.std.specs.Prelude.{◌≡◌, map, MatchOption};
 ghost use Rattle.trail.specs.View.{trail_of};
 ghost use Rattle.trail.specs.Rows.{kept_row, NoLast, Last};
 
+use crate::entry::Entry;
 use crate::trail::Trail;
 
 impl Trail {
@@ -13,12 +14,7 @@ impl Trail {
         if self.depth == 0 {
             return None;
         }
-        for option in 0..width {
-            if self.entry(option).decides(self.depth) {
-                return Some(option);
-            }
-        }
-        None
+        (0..width).find(|option| self.entry(*option) == Some(Entry::Decided(self.depth)))
     }
 
     // Cuts the decisions above the level, and every value that stands on them.
@@ -26,9 +22,16 @@ impl Trail {
         ensures table { self.new.entries ≡ map (kept_row level) self.old.entries }
         ensures depth { self.new.depth ≡ level }
     {
-        for option in 0..128 {
-            self.entries[option] = self.entries[option].kept(level);
+        for entry in &mut self.entries {
+            *entry = kept(*entry, level);
         }
         self.depth = level;
     }
+}
+
+// What is left of an option's entry once the decisions above the level are gone.
+fn kept(entry: Option<Entry>, level: u8) -> Option<Entry>
+    ensures { result ≡ kept_row level entry }
+{
+    entry.filter(|entry| entry.level() <= level)
 }

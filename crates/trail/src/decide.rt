@@ -4,7 +4,7 @@ ghost use Rattle.search_theory.specs.Trails.{Full};
 ghost use Rattle.trail.specs.View.{trail_of};
 ghost use Rattle.trail.specs.Rows.{decision_row, Lowest};
 
-use crate::entry::Origin;
+use crate::entry::Entry;
 use crate::trail::Trail;
 
 impl Trail {
@@ -12,12 +12,7 @@ impl Trail {
     pub fn lowest_open(&self, width: usize) -> Option<usize>
         ensures { MatchOption result (Full width (trail_of self.now.entries)) (Lowest width (trail_of self.now.entries)) }
     {
-        for option in 0..width {
-            if self.entry(option).is_open() {
-                return Some(option);
-            }
-        }
-        None
+        (0..width).find(|option| self.entry(*option).is_none())
     }
 
     // Gives the option 0, one level deeper; no other entry changes, and none at all where the table has no such option.
@@ -28,14 +23,7 @@ impl Trail {
         ensures past { 128 ≤ option → self.new.entries ≡ self.old.entries }
         ensures depth { self.new.depth ≡ min (self.old.depth + 1) 255 }
     {
-        let level = self.depth.saturating_add(1);
-        self.depth = level;
-        if option >= 128 {
-            return;
-        }
-        let entry = &mut self.entries[option];
-        entry.value = 0;
-        entry.origin = Some(Origin::Decision);
-        entry.level = level;
+        self.depth = self.depth.saturating_add(1);
+        self.write(option, Entry::Decided(self.depth));
     }
 }

@@ -2,25 +2,26 @@
 ghost use Rattle.std.specs.Prelude.{◌≡◌, ◌<◌, ◌≤◌, length, slice_set};
 ghost use Rattle.trail.specs.Rows.{rule_row};
 
-use crate::entry::{Origin, Source};
+use crate::entry::{Entry, Source};
 use crate::trail::Trail;
 
 impl Trail {
     // Gives the option the value that a rule marks, at the present level; no other entry changes, and none at all where the
     // table has no such option.
-    pub fn imply(&mut self, option: usize, value: u8, source: Source)
+    pub fn imply(&mut self, option: usize, value: bool, source: Source)
         ensures there { option < 128 → option < length self.old.entries }
         ensures table { option < 128 → self.new.entries ≡ slice_set self.old.entries option (rule_row value self.old.depth source) }
         ensures past { 128 ≤ option → self.new.entries ≡ self.old.entries }
         ensures depth { self.new.depth ≡ self.old.depth }
     {
         let level = self.depth;
-        if option >= 128 {
-            return;
-        }
-        let entry = &mut self.entries[option];
-        entry.value = value;
-        entry.origin = Some(Origin::Rule(source));
-        entry.level = level;
+        self.write(
+            option,
+            Entry::Implied {
+                value,
+                level,
+                source,
+            },
+        );
     }
 }

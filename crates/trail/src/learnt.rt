@@ -1,69 +1,70 @@
 // The store of learnt clauses. It is a ring: when it is full, the next clause takes the place of the oldest.
-ghost use Rattle.std.specs.Prelude.{◌≡◌, ◌+◌, ◌<◌, ◌≤◌, [], ◌∷◌, length, take, if◌then◌else◌, nat_lt, slice_index_or};
+ghost use Rattle.std.specs.Prelude.{◌≡◌, ◌<◌, ◌≤◌, [], ◌∷◌, length, take, slice_index_or};
+ghost use Rattle.arrayvec.specs.ArrayVec.{array_vec_len};
 ghost use Rattle.clauses.specs.Literals.{numbers};
-ghost use Rattle.trail.specs.Ring.{literals_of, ring};
+ghost use Rattle.trail.specs.Ring.{ring};
 
-use crate::learnt_clause::LearntClause;
+use arrayvec::ArrayVec;
+use clauses::clause::Clause;
 use clauses::literal::Literal;
 
-// The newest of the `count` clauses stands before the place `next`.
+// The newest of the clauses stands before the place `next`. A ring by hand, since memory is fixed and the kit's circular buffer allocates.
 #[derive(Drop)]
 pub struct Learnt {
-    count: usize,
     next: usize,
-    clauses: [LearntClause; 192],
-    ghost sized: { (count ≤ 192) × (next < 192) },
+    clauses: ArrayVec<Clause<128>, 192>,
+    ghost sized: { (array_vec_len clauses ≤ 192) × (next < 192) },
+    ghost filling: { array_vec_len clauses < 192 → next ≡ array_vec_len clauses },
 }
 
 impl Learnt {
     // The store without a clause.
+    #[tactic(auto, using(crate::proofs::Rings::ring_none))]
     pub fn empty() -> Learnt
-        ensures { ring result.count result.next result.clauses ≡ [] }
+        ensures { ring result.next result.clauses ≡ [] }
     {
         Learnt {
-            count: 0,
             next: 0,
-            clauses: [LearntClause::empty(); 192],
+            clauses: ArrayVec::new(),
         }
     }
 
     // Forgets all that was learnt.
+    #[tactic(auto, using(crate::proofs::Rings::ring_none))]
     pub fn clear(&mut self)
-        ensures { ring self.new.count self.new.next self.new.clauses ≡ [] }
+        ensures { ring self.new.next self.new.clauses ≡ [] }
     {
-        self.count = 0;
+        self.next = 0;
+        self.clauses.clear();
     }
 
     // How many clauses there are.
+    #[tactic(auto, using(crate::proofs::Rings::ring_length))]
     pub fn len(&self) -> usize
-        ensures { result ≡ length (ring self.now.count self.now.next self.now.clauses) }
+        ensures { result ≡ length (ring self.now.next self.now.clauses) }
     {
-        self.count
+        self.clauses.len()
     }
 
     // The literals of the clause of that age; the newest has age 0. There are none where there is no such clause.
     pub fn clause(&self, age: usize) -> &[Literal]
-        ensures { numbers result.now ≡ slice_index_or (ring self.now.count self.now.next self.now.clauses) age [] }
+        ensures { numbers result.now ≡ slice_index_or (ring self.now.next self.now.clauses) age [] }
     {
-        if age >= self.count {
+        if age >= self.len() {
             return &[];
         }
         self.clauses[(self.next + 191 - age) % 192].literals()
     }
 
     // One clause more; the oldest goes when there are 192.
-    pub fn push(&mut self, clause: LearntClause)
-        ensures { ring self.new.count self.new.next self.new.clauses ≡ take 192 (literals_of clause ∷ ring self.old.count self.old.next self.old.clauses) }
+    pub fn push(&mut self, clause: Clause<128>)
+        ensures { ring self.new.next self.new.clauses ≡ take 192 (numbers clause ∷ ring self.old.next self.old.clauses) }
     {
-        self.clauses[self.next] = clause;
+        if self.clauses.is_full() {
+            self.clauses[self.next] = clause;
+        } else {
+            self.clauses.push(clause);
+        }
         self.next = (self.next + 1) % 192;
-        self.count = one_more(self.count);
     }
-}
-
-// One more, up to the room of the ring.
-fn one_more(count: usize) -> usize
-    ensures { result ≡ (if nat_lt count 192 then count + 1 else 192) }
-{
-    if count < 192 { count + 1 } else { 192 }
 }

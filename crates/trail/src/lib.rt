@@ -6,5 +6,4 @@ mod decide;
 pub mod entry;
 mod imply;
 pub mod learnt;
-pub mod learnt_clause;
 pub mod trail;

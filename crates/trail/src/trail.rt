@@ -1,43 +1,41 @@
-// The trail: one entry for each option, and how many decisions stand. A search begins with the picks alone.
-ghost use Rattle.std.specs.Prelude.{◌≡◌, map, replicate, slice_index_or};
-ghost use Rattle.search_theory.specs.Searches.{shown, values_from};
-ghost use Rattle.trail.specs.View.{trail_of, open_row};
-ghost use Rattle.trail.specs.Rows.{start_row};
+// The trail: one entry for each option, none where it is open, and how many decisions stand. A search begins with the picks alone.
+ghost use Rattle.std.specs.Prelude.{◌≡◌, ◌<◌, ◌≤◌, map, replicate, length, Some, None, option_map, slice_index_or, slice_set};
+ghost use Rattle.search_theory.specs.Searches.{shown as shown_of, values_from};
+ghost use Rattle.trail.specs.declared.entry.Entry.TheVariants.{Picked};
+ghost use Rattle.search_theory.specs.Values.{value_number};
+ghost use Rattle.trail.specs.View.{trail_of};
 ghost use Rattle.trail.specs.Building.{handed};
 ghost use Rattle.trail.specs.Beginning.{Begun};
 
-use crate::entry::Entry;
+use crate::entry::{Entry, shown};
+use std::array;
 
 // Room for every option that a bank can have, so that no call fails for want of memory.
 #[derive(Drop)]
 pub struct Trail {
-    pub(crate) entries: [Entry; 128],
+    pub(crate) entries: [Option<Entry>; 128],
     pub(crate) depth: u8,
 }
 
 impl Trail {
     // The trail with every option open.
     pub fn new() -> Trail
-        ensures table { result.entries ≡ replicate 128 open_row }
+        ensures table { result.entries ≡ replicate 128 None }
         ensures depth { result.depth ≡ 0 }
     {
         Trail {
-            entries: [Entry::open(); 128],
+            entries: [None; 128],
             depth: 0,
         }
     }
 
     // Starts anew from the picks.
-    pub fn begin(&mut self, picks: &[u8; 128])
-        ensures table { self.new.entries ≡ map start_row picks.now }
+    pub fn begin(&mut self, picks: &[Option<bool>; 128])
+        ensures table { self.new.entries ≡ map (option_map Picked) picks.now }
         ensures depth { self.new.depth ≡ 0 }
-        ensures begun { Begun picks.now self.new }
+        ensures begun { Begun (map value_number picks.now) self.new }
     {
-        let mut entries = [Entry::open(); 128];
-        for option in 0..128 {
-            entries[option] = Entry::of_pick(picks[option]);
-        }
-        self.entries = entries;
+        self.entries = array::from_fn(|option| picks[option].map(Entry::Picked));
         self.depth = 0;
     }
 
@@ -49,50 +47,48 @@ impl Trail {
     }
 
     // The option's entry; past the table every option is open.
-    pub fn entry(&self, option: usize) -> Entry
-        ensures { result ≡ slice_index_or self.now.entries option open_row }
+    pub fn entry(&self, option: usize) -> Option<Entry>
+        ensures { result ≡ slice_index_or self.now.entries option None }
     {
-        entry_at(&self.entries, option)
+        *self.entries.get(option)?
     }
 
-    // The option's value, 2 where it is open.
-    pub fn value(&self, option: usize) -> u8
-        ensures { result ≡ shown (trail_of self.now.entries option) }
+    // The option's value, if it has one.
+    pub fn value(&self, option: usize) -> Option<bool>
+        ensures { value_number result ≡ shown_of (trail_of self.now.entries option) }
     {
-        self.entry(option).shown()
+        self.entry(option).map(Entry::value)
     }
 
-    // The values of all options.
+    // The values of all options. They are numbers, as a bank's `mark` reads them: a caller of it may hand in a wrong one.
     pub fn values(&self) -> [u8; 128]
         ensures { result ≡ values_from 128 0 (trail_of self.now.entries) }
     {
-        let mut values = [2u8; 128];
-        for option in 0..128 {
-            values[option] = self.value(option);
-        }
-        values
+        array::from_fn(|option| shown(self.entries[option]))
     }
 
-    // Writes the build that the trail reads into the first `width` places; what is open reads 0. A place that is too short stays.
+    // Gives the option the entry, where the table has such an option; no other entry changes.
+    pub(crate) fn write(&mut self, option: usize, entry: Entry)
+        ensures there { option < 128 → option < length self.old.entries }
+        ensures table { option < 128 → self.new.entries ≡ slice_set self.old.entries option (Some entry) }
+        ensures past { 128 ≤ option → self.new.entries ≡ self.old.entries }
+        ensures depth { self.new.depth ≡ self.old.depth }
+    {
+        if option < 128 {
+            self.entries[option] = Some(entry);
+        }
+    }
+
+    // Writes the build that the trail reads into the first `width` places; what is open reads 0. A place that is too short stays:
+    // a completion does not fail for it, since its caller has the verdict all the same.
     pub fn write_build(&self, width: usize, place: &mut [u8])
         ensures { place.new ≡ handed width (trail_of self.now.entries) place.old }
     {
         if place.len() < width {
             return;
         }
-        for option in 0..width {
-            place[option] = (self.value(option) == 1) as u8;
+        for (option, bit) in place[..width].iter_mut().enumerate() {
+            *bit = self.entry(option).is_some_and(Entry::value) as u8;
         }
-    }
-}
-
-// An entry of the table, or an open one past its end.
-fn entry_at(entries: &[Entry], option: usize) -> Entry
-    ensures { result ≡ slice_index_or entries.now option open_row }
-{
-    if option < entries.len() {
-        entries[option]
-    } else {
-        Entry::open()
     }
 }

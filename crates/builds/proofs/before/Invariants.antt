@@ -1,6 +1,6 @@
-use Rattle.std.proofs.Common.{◌≡◌, drop}
+use Rattle.std.proofs.Common.{◌≡◌, length, drop}
 use Rattle.builds.specs.Builds.{before}
 use Rattle.builds.proofs.before.Given as goal
 
-abbrev pub invariant-loop-i : goal.invariant-loop-i
-invariant-loop-i l = before (drop l.i l.left) (drop l.i l.right) ≡ before l.left l.right
+abbrev pub invariant-loop-ours : goal.invariant-loop-ours
+invariant-loop-ours l = before (drop (length l.yielded) l.left) (drop (length l.yielded) l.right) ≡ before l.left l.right

@@ -1,34 +1,15 @@
-use Rattle.std.proofs.Common.{◌≡◌, ◌+◌, true, false, ◌&&◌, get_or, drop, sym, ap, ◌∙◌, arith}
-use Rattle.builds.specs.Builds.{bit}
-use Rattle.builds.specs.Values.{fits, allows}
-use Rattle.builds.proofs.Tables.{fits_step, fits_end}
+use Rattle.std.proofs.Common.{◌∙◌, rules, tests}
+use Rattle.std.proofs.lemmas.Iterator.{YieldsList-from_slice, YieldsList-from_zip}
+use Rattle.std.proofs.lemmas.Iterator.Search.{all_from_yields_List}
+use Rattle.std.specs.Prelude.{ℕ, Bool}
+use Rattle.builds.specs.Values.{allows}
+use Rattle.builds.proofs.Tables.{fits_pairs}
 use Rattle.builds.proofs.Answering.{answer_law, some_build_law}
 use Rattle.builds.proofs.fits.Goals as goal
 
-pub returns-then-not-allows : goal.returns-then-not-allows
-returns-then-not-allows c =
-    let v = c.args.values.now in
-    let b = c.args.build.now in
-    let i = c.loop-i.i in
-    let e : allows (get_or v i 0) (bit b i) ≡ false = sym c.if-not-allows.ensures in
-    record {
-      value = sym (ap (λ t. t && fits (drop (i + 1) v) (drop (i + 1) b)) e) ∙ sym (fits_step v b i (omega arith) (omega arith)) ∙ c.loop-i.invariant;
-      answers = answer_law;
-      somes = some_build_law;
-    }
-
-pub loop-i-preserved : goal.loop-i-preserved
-loop-i-preserved c =
-    let v = c.args.values.now in
-    let b = c.args.build.now in
-    let i = c.loop-i.i in
-    let e : allows (get_or v i 0) (bit b i) ≡ true = sym c.if-not-allows.ensures in
-    sym (ap (λ t. t && fits (drop (i + 1) v) (drop (i + 1) b)) e) ∙ sym (fits_step v b i (omega arith) (omega arith)) ∙ c.loop-i.invariant
-
 pub returns : goal.returns
 returns c =
-    record {
-      value = sym (fits_end c.args.values.now c.args.build.now c.loop-i.i (omega arith)) ∙ c.loop-i.invariant;
-      answers = answer_law;
-      somes = some_build_law;
-    }
+    let v = c.args.values.now in
+    let b = c.args.build.now in
+    let each = all_from_yields_List (λ (p : ℕ × Bool). allows p.0 p.1) c.all.new.self _ c.all.result c.all.ensures.ran (YieldsList-from_zip (YieldsList-from_slice v cc) (YieldsList-from_slice b cc)) (λ x r q k. search (rules, tests)) in
+    record { value = each ∙ fits_pairs v b; answers = answer_law; somes = some_build_law }

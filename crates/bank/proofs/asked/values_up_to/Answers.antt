@@ -1,15 +1,21 @@
-use Rattle.std.proofs.Common.{length, sym, arith}
-use Rattle.std.proofs.lemmas.Bool.{and_left, and_right, and_from, lt-leb, le-leb}
-use Rattle.builds.proofs.Tables.{up_to_take, up_to_not}
+use Rattle.std.proofs.Common.{◌≡◌, ℕ, ◌-◌, ◌&&◌, leb, List, [], ◌∷◌, length, take, sym, refl, ap, ◌∙◌, arith, rules, tests}
+use Rattle.std.specs.List.{list_all}
+use Rattle.std.proofs.lemmas.Bool.{le-leb}
+use Rattle.std.proofs.lemmas.Iterator.{YieldsList-from_slice}
+use Rattle.std.proofs.lemmas.Iterator.Search.{all_from_yields_List}
+use Rattle.builds.specs.Values.{up_to}
 use Rattle.bank.proofs.asked.values_up_to.Goals as goal
 
-pub returns-then-values-w : goal.returns-then-values-w
-returns-then-values-w c = sym (and_left _ _ (lt-leb c.args.w (length c.args.values.now) (omega arith)))
+up_to_all : (m : ℕ) (xs : List ℕ) → list_all (λ x. leb x m) xs ≡ up_to m xs
+up_to_all m [] = refl
+up_to_all m (x ∷ xs) = ap (λ b. leb x m && b) (up_to_all m xs)
 
-pub returns-then-values-i : goal.returns-then-values-i
-returns-then-values-i c = sym (and_right _ _ (up_to_not c.args.most c.args.w c.args.values.now c.loop-i.i (omega arith) (omega arith) (omega arith)))
-
-pub returns : goal.returns
-returns c =
-    sym (and_from _ _ (le-leb c.args.w (length c.args.values.now) (omega arith))
-    (up_to_take c.args.most c.args.w c.args.values.now (omega arith) (λ k h. c.loop-i.invariant k (omega arith))))
+pub returns-then-w-values : goal.returns-then-w-values
+returns-then-w-values c =
+    let v = c.args.values.now in
+    let w = c.args.w in
+    let front : List ℕ = take (w - 0) v in
+    let whole : w - 0 ≡ w = omega arith in
+    let small = all_from_yields_List (λ x. leb x c.args.most) _ _ _ c.all.ensures.ran (YieldsList-from_slice front cc) (λ x b q k. search (rules, tests)) in
+    let e : c.all.result ≡ up_to c.args.most front = small ∙ up_to_all c.args.most front in
+    e ∙ ap (λ n. up_to c.args.most (take n v)) whole ∙ sym (ap (λ b. b && up_to c.args.most (take w v)) (le-leb w (length v) (omega arith)))

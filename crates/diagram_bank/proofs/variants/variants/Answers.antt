@@ -1,5 +1,5 @@
-use Rattle.std.proofs.Common.{ℕ, ◌+◌, cond, ◌&&◌, eqb, List, ◌++◌, length, take, drop, Ok, sym, ap, ◌∙◌, arith}
-use Rattle.std.proofs.lemmas.List.{get_or-take, length-take-le}
+use Rattle.std.proofs.Common.{ℕ, ◌+◌, ◌&&◌, List, ◌++◌, length, take, drop, Ok, ap, ◌∙◌, arith}
+use Rattle.std.proofs.lemmas.List.{length-take-le}
 use Rattle.std.proofs.lemmas.Bool.{lt-ltb}
 use Rattle.builds.specs.Values.{fits}
 use Rattle.diagrams.specs.Roots.{root_at}
@@ -20,18 +20,16 @@ returns c =
     let rows = bank.rows.now in
     let values : List ℕ = c.args.values.now in
     let old : List ℕ = c.args.column.now in
-    let ready = c.in_default.ensures.ready in
-    let cause = c.in_default.ensures.value in
+    let ready = c.in_ok-check_countable.ensures.ready in
+    let cause = c.in_ok-check_countable.ensures.value in
     let v = take w values in
     let sized = length-take-le w values ready.long in
-    let root = (root_at bank.roots c.args.rule).node in
-    let lows : List ℕ = c.value_weights.new.weights in
-    let highs : List ℕ = c.value_weights-2.new.weights in
+    let root = (root_at bank.roots.items c.args.rule).node in
+    let lows : List ℕ = c.value_weights.new.low in
+    let highs : List ℕ = c.value_weights.new.high in
     let k = counts_64 lows highs in
-    let given = weight_of k w v
-    (λ o d h. c.value_weights.ensures o d h ∙ ap (λ (x : ℕ). cond (eqb x 1) 0 1) (sym (get_or-take w values o 0 h)))
-    (λ o d h. c.value_weights-2.ensures o d h ∙ ap (λ (x : ℕ). cond (eqb x 0) 0 1) (sym (get_or-take w values o 0 h))) in
-    let known = lt-ltb c.args.rule bank.root_count ready.known in
+    let given = weight_of k w v (λ o d h. c.value_weights.ensures.lows o d (omega (arith, sized))) (λ o d h. c.value_weights.ensures.highs o d (omega (arith, sized))) in
+    let known = lt-ltb c.args.rule (length bank.roots.items) ready.known in
     let roomy = room_enough w bank.used (length lows) (length highs) (length old) (omega arith) (omega arith) ready.wide in
     let count = count_builds w (λ β. fits v β && meets_root rows root β) in
     record {

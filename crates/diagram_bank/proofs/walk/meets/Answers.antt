@@ -1,33 +1,28 @@
-use Rattle.std.proofs.Common.{◌+◌, ◌<◌, false, length, take, Ok, sym, ap, ◌∙◌, arith}
-use Rattle.std.proofs.lemmas.Bool.{cond-true, cond-false, lt-ltb, le-ltb, le-leb, lt-leb}
+use Rattle.std.proofs.Common.{false, length, take, Ok, sym, ap, ◌∙◌, arith}
+use Rattle.std.proofs.lemmas.Bool.{cond-true, le-leb}
 use Rattle.std.proofs.lemmas.List.{get_or-take}
 use Rattle.builds.specs.Builds.{bit}
-use Rattle.diagrams.specs.Roots.{root_at}
+use Rattle.diagrams.specs.Walk.{meets_root}
 use Rattle.diagram_theory.proofs.Within.{ends_within}
 use Rattle.diagram_theory.proofs.Paths.{path_law}
+use Rattle.sweeps.proofs.Answered.{rooted}
 use Rattle.diagram_bank.proofs.walk.meets.Goals as goal
 
-pub returns-then-rule-bank : goal.returns-then-rule-bank
-returns-then-rule-bank c =
-    record { answer = sym (cond-false _ _ _ (le-ltb c.args.rule c.args.bank.now.root_count (omega arith))); paths = path_law }
-
-pub returns-then-build-bank : goal.returns-then-build-bank
-returns-then-build-bank c =
-    let bank = c.args.bank.now in
-    record {
-      answer = sym (cond-true _ _ _ (lt-ltb c.args.rule bank.root_count (omega arith)) ∙ cond-false _ _ _ (lt-leb bank.width (length c.args.build.now) (omega arith)));
-      paths = path_law;
-    }
-
-pub returns : goal.returns
-returns c =
+pub returns-clause-answer : goal.returns-clause-answer
+returns-clause-answer c =
     let bank = c.args.bank.now in
     let β = c.args.build.now in
-    let root = (root_at bank.roots c.args.rule).node in
-    let inside : root < bank.used + 2 = bank.rooted c.args.rule (omega arith) in
+    let root = rooted bank.roots.items c.args.rule _ c.in_ok-root.ensures.answer in
     let met = c.ends_at_one.ensures
-    ∙ ends_within bank.width bank.rows.now bank.used bank.lawful root (bit β) (bit (take bank.width β)) inside (λ o p q. sym (get_or-take bank.width β o false q)) in
-    record {
-      answer = ap Ok met ∙ sym (cond-true _ _ _ (lt-ltb c.args.rule bank.root_count (omega arith)) ∙ cond-true _ _ _ (le-leb bank.width (length β) (omega arith)));
-      paths = path_law;
-    }
+    ∙ ends_within bank.width bank.rows.now bank.used bank.lawful _ (bit β) (bit (take bank.width β)) c.in_ok-root.ensures.inside (λ o p q. sym (get_or-take bank.width β o false q))
+    ∙ ap (λ n. meets_root bank.rows.now n (take bank.width β)) root.1 in
+    ap Ok met ∙ sym (cond-true _ _ _ root.0 ∙ cond-true _ _ _ (le-leb bank.width (length β) (omega arith)))
+
+pub returns-clause-paths : goal.returns-clause-paths
+returns-clause-paths c = path_law
+
+pub returns-in_err-root-clause-paths : goal.returns-in_err-root-clause-paths
+returns-in_err-root-clause-paths c = path_law
+
+pub returns-then-build-bank-clause-paths : goal.returns-then-build-bank-clause-paths
+returns-then-build-bank-clause-paths c = path_law

@@ -1,33 +1,24 @@
-use Rattle.std.proofs.Common.{◌≡◌, ◌+◌, eqb, length, get_or, drop, ap, arith}
-use Rattle.std.proofs.lemmas.Bool.{eq-eqb, ne_eqb}
-use Rattle.std.proofs.lemmas.List.{at_drop_more, at_drop_all}
-use Rattle.builds.specs.Values.{num}
-use Rattle.groups.specs.Tally.{holding}
+use Rattle.std.proofs.Common.{rules, tests, ◌<◌, eqb, length, ◌∙◌, get_or}
+use Rattle.std.proofs.lemmas.Iterator.{YieldsList-from_slice}
+use Rattle.std.proofs.lemmas.Iterator.Adapters.{serves_from_places}
+use Rattle.std.proofs.lemmas.Iterator.Consumers.{YieldsList-from_filter, count_from_yields_List}
 use Rattle.groups.proofs.Belows.{below_at}
+use Rattle.groups.proofs.Tallies.{length_holding}
 use Rattle.groups.proofs.marking.holding.Goals as goal
-use Rattle.groups.proofs.marking.holding.Goals.{then-values-option, else-values-option}
 
-pub bounds-values-option : goal.bounds-values-option
-bounds-values-option c = below_at (length c.args.values.now) c.args.options.now c.loop-option.option-index c.requires (omega arith)
+pub count-requires-clause-can : goal.count-requires-clause-can
+count-requires-clause-can c =
+    let os = c.args.options.now in (
+      tt,
+      tt,
+      serves_from_places (YieldsList-from_slice os cc) (λ x q h. search rules) (λ x k l e.
+          let b : x.now < length c.args.values.now = below_at (length c.args.values.now) os k x.now c.requires l e in search (rules, tests)),
+    )
 
-pub loop-option-preserved : goal.loop-option-preserved
-loop-option-preserved c =
-    let v = c.args.values.now in
+pub returns-clause-value : goal.returns-clause-value
+returns-clause-value c =
     let os = c.args.options.now in
-    let i = c.loop-option.option-index in
+    let v = c.args.values.now in
     let x = c.args.value in
-    let y = get_or v (get_or os i 0) 0 in
-    let step : holding x (drop i os) v ≡ num (eqb y x) + holding x (drop (i + 1) os) v = at_drop_more (λ t. holding x t v) os i 0 (omega arith) in
-    let inv = c.loop-option.invariant in
-    elim c.if-values-option.branch [
-      | then-values-option w ↦ (let one : num (eqb y x) ≡ 1 = ap num (eq-eqb y x w.if-values-option.true) in (omega (arith, w.found-is, inv.0), omega (arith, w.found-is, inv.1)))
-      | else-values-option w ↦ (let none : num (eqb y x) ≡ 0 = ap num (ne_eqb y x w.if-values-option.false) in (omega (arith, w.found-is, inv.0), omega (arith, w.found-is, inv.1)))
-    ]
-
-pub returns : goal.returns
-returns c =
-    let v = c.args.values.now in
-    let os = c.args.options.now in
-    let end : holding c.args.value (drop c.loop-option.option-index os) v ≡ 0 = at_drop_all (λ t. holding c.args.value t v) os c.loop-option.option-index (omega arith) in
-    let inv = c.loop-option.invariant in
-    record { value = omega (arith, inv.0); bound = omega (arith, inv.1) }
+    let e = count_from_yields_List c.filter.result c.count.result c.count.ensures.ran (YieldsList-from_filter _ (λ o. eqb (get_or v o 0) x) (YieldsList-from_slice os cc) c.filter.ensures.closure (λ x r q k. search (rules, tests))) in
+    e ∙ length_holding x os v

@@ -3,5 +3,5 @@ use Rattle.listing.specs.Listing.{value_lines}
 use Rattle.listing.specs.Places.{put_at}
 use Rattle.listing.proofs.write.write_build.Given as goal
 
-abbrev pub invariant-loop-i : goal.invariant-loop-i
-invariant-loop-i l = l.listing ≡ put_at 0 (value_lines 0 (take l.i l.values)) l.initial.listing
+abbrev pub invariant-loop-option : goal.invariant-loop-option
+invariant-loop-option l = l.listing ≡ put_at 0 (value_lines 0 (take l.option l.values)) l.initial.listing

@@ -1,9 +1,8 @@
-use Rattle.std.proofs.Common.{◌-◌, length}
+use Rattle.std.specs.Iterator.Adapters.{enumerate_source, enumerate_count}
+use Rattle.std.proofs.Common.{map}
+use Rattle.search_theory.specs.Values.{value_number}
 use Rattle.pick_text.proofs.Reading.{Reading}
 use Rattle.pick_text.proofs.picks_text.read_picks.Given as goal
 
-abbrev pub invariant-loop-place : goal.invariant-loop-place
-invariant-loop-place l = Reading l.text l.width l.start l.count l.picks
-
-abbrev pub decreases-loop-place : goal.decreases-loop-place
-decreases-loop-place l = length l.text - l.start
+abbrev pub invariant-loop-before : goal.invariant-loop-before
+invariant-loop-before l = Reading l.text l.width (enumerate_source l.before-iterator).rest.now (enumerate_count l.before-iterator) (map value_number l.picks)

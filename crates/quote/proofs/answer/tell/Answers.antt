@@ -1,45 +1,41 @@
-use Rattle.std.proofs.Common.{◌≡◌, ◌+◌, ◌<◌, get_or, sym, refl, ap, ◌∙◌, subst, arith}
+use Rattle.std.proofs.Common.{◌≡◌, ◌+◌, ◌<◌, map, get_or, None, sym, refl, ap, ◌∙◌, subst, arith}
+use Rattle.std.proofs.Math.ListN.{get_or-map}
+use Rattle.search_theory.specs.Values.{value_number}
 use Rattle.search_theory.specs.Held.{PicksOk}
-use Rattle.session.specs.View.{Stands}
+use Rattle.session.specs.View.{state_of}
 use Rattle.quote.proofs.Telling.{Told, told_none, told_all, told_skip, told_pick}
 use Rattle.quote.proofs.answer.tell.Goals as goal
-use Rattle.quote.proofs.answer.tell.Goals.{then-picks-option-lt2, else-picks-option-lt2}
+use Rattle.quote.proofs.answer.tell.Goals.{in-Some, in_default}
 
 pub loop-option-init : goal.loop-option-init
-loop-option-init g c = (refl, λ h. h, told_none c.args.picks.now c.args.session.now.picks c.requires.none)
+loop-option-init g c = (refl, told_none (map value_number c.args.picks.now) (state_of c.args.session.now).picks c.requires.none)
 
 pub loop-option-preserved : goal.loop-option-preserved
 loop-option-preserved g c =
     let l = c.loop-option in
     let i = l.invariant in
-    let b = c.args.session.now.bank in
-    let ps = c.args.picks.now in
+    let ps = map value_number c.args.picks.now in
+    let there = get_or-map value_number c.args.picks.now l.option None in
     let M = g.B.RuleBank.meaning l.session.bank in
-    let long : l.option < 128 = c.loop-option-test.true in
     let ok : PicksOk M ps = subst (λ x. PicksOk (g.B.RuleBank.meaning x) ps) (sym i.0) c.requires.picks in
-    elim c.if-picks-option-lt2.branch [
-      | then-picks-option-lt2 w ↦
+    elim c.match-pick.branch [
+      | in-Some w ↦
           let e = w.pick.ensures in
           let s = w.session-is in (
             ap (λ x. x.bank) s ∙ e.bank ∙ i.0,
-            λ h. subst (λ x. Stands (g.B.RuleBank.meaning b) x) (sym s)
-                (subst (λ x. Stands (g.B.RuleBank.meaning x) w.pick.new.self) i.0 (e.kept (subst (λ x. Stands (g.B.RuleBank.meaning x) l.session) (sym i.0) (i.1 h)))),
-            told_pick M l.option (get_or ps l.option 0) ps l.session.picks c.if-picks-option-lt2.session.picks ok long refl w.if-picks-option-lt2.true i.2 (ap (λ x. x.picks) s ∙ e.picks),
+            told_pick M l.option w.in-Some.value ps (state_of l.session).picks (state_of c.match-pick.session).picks ok c.loop-option-test.true (there ∙ ap value_number w.in-Some.is) i.1
+                (ap (λ x. (state_of x).picks) s ∙ e.picks),
           )
-      | else-picks-option-lt2 w ↦
+      | in_default w ↦
           let s = w.session-is in (
             ap (λ x. x.bank) s ∙ i.0,
-            λ h. subst (λ x. Stands (g.B.RuleBank.meaning b) x) (sym s) (i.1 h),
-            subst (λ x. Told (l.option + 1) ps x) (sym (ap (λ x. x.picks) s)) (told_skip M l.option ps l.session.picks ok long w.if-picks-option-lt2.false i.2),
+            subst (λ x. Told (l.option + 1) ps x) (sym (ap (λ x. (state_of x).picks) s)) (told_skip l.option ps (state_of l.session).picks (there ∙ ap value_number w.in_default.is) i.1),
           )
     ]
 
-pub returns : goal.returns
-returns g c =
+pub returns-clause-picks : goal.returns-clause-picks
+returns-clause-picks g c =
     let i = c.loop-option.invariant in
-    let ps = c.args.picks.now in
-    record {
-      bank = i.0;
-      picks = told_all (g.B.RuleBank.meaning c.args.session.now.bank) ps c.loop-option.session.picks c.requires.picks (let n : c.loop-option.option ≡ 128 = omega arith in subst (λ k. Told k ps c.loop-option.session.picks) n i.2);
-      kept = i.1;
-    }
+    let ps = map value_number c.args.picks.now in
+    let qs = (state_of c.loop-option.session).picks in
+    told_all (g.B.RuleBank.meaning c.args.session.now.bank) ps qs c.requires.picks (let n : c.loop-option.option ≡ 128 = omega arith in subst (λ k. Told k ps qs) n i.1)

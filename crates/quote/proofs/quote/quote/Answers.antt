@@ -1,7 +1,9 @@
-use Rattle.std.proofs.Common.{length, sym, refl, arith}
+use Rattle.std.proofs.Common.{length, map, sym, refl, ap, ◌∙◌, arith}
+use Rattle.std.specs.Option.{unwrap_or}
 use Rattle.std.proofs.lemmas.Bool.{lt-ltb, le-ltb, le-leb, and_from}
 use Rattle.texts.specs.Causes.{fault_of}
 use Rattle.listing.specs.Listing.{fault_line, fault_fits}
+use Rattle.search_theory.specs.Values.{value_number}
 use Rattle.order_theory.proofs.Widths.{width_law}
 use Rattle.order_theory.proofs.LineNumbers.{line_small}
 use Rattle.order_theory.proofs.Ordered.{budget_read, order_picks, order_first, order_open}
@@ -20,7 +22,7 @@ answer-requires c =
     let r = e.ready in
     let l = c.read_order.new in
     record {
-      picks = order_picks c.args.rules.now c.args.picks.now c.args.budget l.diagrams l.clauses l.groups c.in-Ok.frame.first l.picked r.held r.block r.picked e.answer;
+      picks = order_picks c.args.rules.now c.args.picks.now c.args.budget l.tables c.in-Ok.order.first (map value_number c.in-Ok.order.picks) r.held r.block r.picked e.answer;
       budget = budget_read c.args.rules.now c.args.picks.now c.args.budget _ (sym e.answer);
       room = c.if-listing-lt-LISTING_ROOM.false;
     }
@@ -35,8 +37,8 @@ returns-in-Err c =
     let room = c.if-listing-lt-LISTING_ROOM.false in
     record {
       quoted = rw (le-ltb (length old) 1792 room)
-          (put_lines (Lists order c.args.budget) old (fault_line f) (fault_fits f old) c.write_fault.result c.write_fault.new.listing
-          (and_from _ _ (lt-ltb f.line 1000000 small) (le-leb 26 (length old) (omega arith))) (fault_told order f c.args.budget e) c.write_fault.ensures.count c.write_fault.ensures.listing);
+          (put_lines (Lists order c.args.budget) old (fault_line f) (fault_fits f old) c.unwrap_or.result c.write_fault.new.listing
+          (and_from _ _ (lt-ltb f.line 1000000 small) (le-leb 26 (length old) (omega arith))) (fault_told order f c.args.budget e) (c.unwrap_or.ensures ∙ ap (λ o. unwrap_or o 0) c.write_fault.ensures.count) c.write_fault.ensures.listing);
       width = width_law;
     }
 
@@ -49,10 +51,10 @@ returns-in-Ok c =
     let order = order_of c.args.rules.now c.args.picks.now c.args.budget in
     let room = c.if-listing-lt-LISTING_ROOM.false in
     record {
-      quoted = rw (le-ltb (length old) 1792 room)
-          (order_told order _ _ _ c.args.budget old c.answer.result c.answer.new.listing e.answer
-          (order_first c.args.rules.now c.args.picks.now c.args.budget l.diagrams l.clauses l.groups c.in-Ok.frame.first l.picked r.held r.block r.picked e.answer)
-          (order_open c.args.rules.now c.args.picks.now c.args.budget l.diagrams l.clauses l.groups c.in-Ok.frame.first l.picked r.held r.block r.picked e.answer)
+      quoted = rw (le-ltb (length old) 1792 room, c.unwrap_or-in-Ok.ensures)
+          (order_told order _ _ _ c.args.budget old (unwrap_or c.answer.result 0) c.answer.new.listing e.answer
+          (order_first c.args.rules.now c.args.picks.now c.args.budget l.tables c.in-Ok.order.first (map value_number c.in-Ok.order.picks) r.held r.block r.picked e.answer)
+          (order_open c.args.rules.now c.args.picks.now c.args.budget l.tables c.in-Ok.order.first (map value_number c.in-Ok.order.picks) r.held r.block r.picked e.answer)
           c.answer.ensures);
       width = width_law;
     }

@@ -5,7 +5,7 @@ use Rattle.search_theory.specs.Calls.{State}
 use Rattle.search_theory.specs.Runs.{New, Run}
 use Rattle.search_theory.proofs.Kept.{run_none, run_more}
 use Rattle.search_theory.proofs.Law.{answers_right, finishes, same_answers}
-use Rattle.session.specs.View.{state_of, Stands}
+use Rattle.session.specs.View.{state_of}
 use Rattle.replay.specs.declared.call.Call.TheVariants.{Forget, Pick}
 use Rattle.replay.specs.Replies.{call_of, reply_of}
 use Rattle.replay.specs.Replayed.{events}
@@ -27,10 +27,8 @@ pub loop-i-init : goal.loop-i-init
 loop-i-init g c =
     let s = c.new-session.result in
     let B = g.B.RuleBank.meaning s.bank in
-    let e : s.bank ≡ c.args.bank = c.new-session.ensures.bank in
-    let n : New B (state_of s) = subst (λ b. New (g.B.RuleBank.meaning b) (state_of s)) (sym e) c.new-session.ensures.new in
-    let h : Stands B s = subst (λ b. Stands (g.B.RuleBank.meaning b) s) (sym e) c.new-session.ensures.stands in
-    (refl, h, (state_of s, n, rw events_none (run_none B (state_of s))), refl)
+    let n : New B (state_of s) = subst (λ b. New (g.B.RuleBank.meaning b) (state_of s)) (sym c.new-session.ensures.bank) c.new-session.ensures.new in
+    (refl, (state_of s, n, rw events_none (run_none B (state_of s))), refl)
 
 pub loop-i-preserved : goal.loop-i-preserved
 loop-i-preserved g c =
@@ -42,17 +40,16 @@ loop-i-preserved g c =
     let r = c.perform.result in
     let v = c.loop-i.invariant in
     let B = g.B.RuleBank.meaning s.bank in
-    let a = v.2.0 in
+    let a = v.1.0 in
     let e : s.bank ≡ s'.bank = sym c.perform.ensures.bank in
     let asked : get_or cs i Forget ≡ get_or cs i (Pick 0 0) = get_or_default cs i Forget (Pick 0 0) c.loop-i-test.true in
     let room : i < length rs = omega arith in
     let t : Run B a (events B.width cs (set rs i r) (i + 1)) (state_of s') =
     subst (λ es. Run B a es (state_of s')) (sym (events_more B.width cs rs i (get_or cs i (Pick 0 0)) r room asked))
-    (run_more B a (state_of s) (state_of s') (events B.width cs rs i) (call_of (get_or cs i (Pick 0 0))) (reply_of B.width r) v.2.2 (c.perform.ensures.does v.1)) in (
+    (run_more B a (state_of s) (state_of s') (events B.width cs rs i) (call_of (get_or cs i (Pick 0 0))) (reply_of B.width r) v.1.2 c.perform.ensures.does) in (
       sym e ∙ v.0,
-      subst (λ b. Stands (g.B.RuleBank.meaning b) s') e (c.perform.ensures.kept v.1),
-      subst (λ b. (x : State) × New (g.B.RuleBank.meaning b) x × Run (g.B.RuleBank.meaning b) x (events (g.B.RuleBank.meaning b).width cs (set rs i r) (i + 1)) (state_of s')) e (a, v.2.1, t),
-      drop_set_before rs i (length cs) r c.loop-i-test.true ∙ v.3,
+      subst (λ b. (x : State) × New (g.B.RuleBank.meaning b) x × Run (g.B.RuleBank.meaning b) x (events (g.B.RuleBank.meaning b).width cs (set rs i r) (i + 1)) (state_of s')) e (a, v.1.1, t),
+      drop_set_before rs i (length cs) r c.loop-i-test.true ∙ v.2,
     )
 
 pub returns : goal.returns
@@ -67,10 +64,10 @@ returns g c =
     let n : c.loop-i.i ≡ length cs = omega arith in
     let t : (x : State) × New B x × Run B x (events B.width cs rs (length cs)) (state_of s) =
     subst (λ b. (x : State) × New (g.B.RuleBank.meaning b) x × Run (g.B.RuleBank.meaning b) x (events (g.B.RuleBank.meaning b).width cs rs (length cs)) (state_of s)) e
-    (subst (λ k. (x : State) × New (g.B.RuleBank.meaning s.bank) x × Run (g.B.RuleBank.meaning s.bank) x (events (g.B.RuleBank.meaning s.bank).width cs rs k) (state_of s)) n v.2) in
+    (subst (λ k. (x : State) × New (g.B.RuleBank.meaning s.bank) x × Run (g.B.RuleBank.meaning s.bank) x (events (g.B.RuleBank.meaning s.bank).width cs rs k) (state_of s)) n v.1) in
     record {
       refusal = rw (le-leb (length cs) (length c.args.replies.now) (omega arith)) refl;
       run = record { from = t.0; to = state_of s; new = t.1; run = t.2 };
-      rest = v.3;
+      rest = v.2;
       law = (answers_right B L, finishes B L, same_answers B L);
     }

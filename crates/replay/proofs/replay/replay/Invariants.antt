@@ -1,13 +1,12 @@
 use Rattle.std.proofs.Common.{◌≡◌, length, drop}
 use Rattle.search_theory.specs.Calls.{State}
 use Rattle.search_theory.specs.Runs.{New, Run}
-use Rattle.session.specs.View.{state_of, Stands}
+use Rattle.session.specs.View.{state_of}
 use Rattle.replay.specs.Replayed.{events}
 use Rattle.replay.proofs.replay.replay.Given as goal
 
 abbrev pub invariant-loop-i : goal.invariant-loop-i
 invariant-loop-i g l = let B = g.B.RuleBank.meaning l.session.bank in
     (l.session.bank ≡ l.initial.session.bank)
-    × Stands B l.session
     × ((s : State) × New B s × Run B s (events B.width l.calls l.replies l.i) (state_of l.session))
     × (drop (length l.calls) l.replies ≡ drop (length l.calls) l.initial.replies)

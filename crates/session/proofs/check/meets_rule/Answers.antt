@@ -8,12 +8,12 @@ unreachable-requires g c =
     let d = g.B.RuleBank.duties c.args.b.now in
     never_refused d c.args.rule c.args.build.now 128 c.requires.known c.requires.long d.narrow c.requires.whole (number_of c.in-Err.field-0) c.in-Err.ensures.answer
 
-pub returns-in-Dead : goal.returns-in-Dead
-returns-in-Dead g c =
+pub returns-in-Ok-Dead : goal.returns-in-Ok-Dead
+returns-in-Ok-Dead g c =
     let d = g.B.RuleBank.duties c.args.b.now in
-    sym (asked_dead d c.args.rule c.args.build.now 128 c.requires.known c.requires.long d.narrow c.requires.whole (ap Ok (sym c.in-Dead.is) ∙ c.in-Ok.ensures.answer))
+    sym (asked_dead d c.args.rule c.args.build.now 128 c.requires.known c.requires.long d.narrow c.requires.whole (ap Ok (sym c.in-Ok-Dead.field-0-is) ∙ c.in-Ok-Dead.ensures.answer))
 
-pub returns-in-Live : goal.returns-in-Live
-returns-in-Live g c =
+pub returns-in-Ok-Live : goal.returns-in-Ok-Live
+returns-in-Ok-Live g c =
     let d = g.B.RuleBank.duties c.args.b.now in
-    sym (asked_live d c.args.rule c.args.build.now 128 c.requires.known c.requires.long d.narrow c.requires.whole (ap Ok (sym c.in-Live.is) ∙ c.in-Ok.ensures.answer))
+    sym (asked_live d c.args.rule c.args.build.now 128 c.requires.known c.requires.long d.narrow c.requires.whole (ap Ok (sym c.in-Ok-Live.field-0-is) ∙ c.in-Ok-Live.ensures.answer))

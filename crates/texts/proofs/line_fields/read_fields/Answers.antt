@@ -1,29 +1,43 @@
-use Rattle.std.proofs.Common.{◌≡◌, ◌+◌, ◌-◌, ◌*◌, take, Some, sym, refl, ap, ◌∙◌, add-one, arith}
-use Rattle.std.proofs.lemmas.List.{length-set, take_more_set}
-use Rattle.texts.specs.Fields.{fields}
-use Rattle.texts.proofs.FieldRows.{field_more, field_none}
+use Rattle.std.proofs.Common.{◌≡◌, Ok, sym, ap, ◌∙◌, inl, inr, arith}
+use Rattle.std.proofs.lemmas.Bool.{cases_lt}
+use Rattle.std.proofs.lemmas.Result.{err_from_is_err_and}
+use Rattle.std.specs.Iterator.Adapters.{take_source, take_count}
+use Rattle.std.specs.Slice.Iter.{chunks_exact_rest}
+use Rattle.texts.specs.declared.faults.LineFault.TheVariants.{Field}
+use Rattle.texts.specs.Fields.{fields, with_fields}
+use Rattle.texts.proofs.FieldRows.{in_front, front_on, front_none, long_on, front_all, was_some, was_none, none_read}
 use Rattle.texts.proofs.line_fields.read_fields.Goals as goal
 
-pub loop-i-init : goal.loop-i-init
-unfolding fields
-loop-i-init c = (c.no_numbers-numbers.ensures, refl)
+pub returns-in_err-ok_or : goal.returns-in_err-ok_or
+returns-in_err-ok_or c =
+    let s = c.in-Some.ensures.steps in
+    let i = c.loop-field.invariant in
+    let w = was_none Field c.read_field.result c.in_err-ok_or.field-0.0 c.in_err-ok_or.ensures.value in
+    let none = front_none _ _ _ _ _ s.1 s.0.1.0 (s.0.1.1 ∙ i.size) c.loop-field.numbers.items (w.0 ∙ c.read_field.ensures.value) ∙ i.read in
+    let p = err_from_is_err_and c.from_residual.result c.from_residual.ensures.1 in
+    rw (p.1, p.2) (none_read (fields c.args.count c.args.bytes.now) c.in_err-ok_or.field-0.0 w.1 none)
 
-pub returns-in-None : goal.returns-in-None
-returns-in-None c =
-    let i = c.loop-i.i in
-    let bs = c.args.bytes.now in
-    let z : (6 * i + 6) - 6 * i ≡ 6 = omega arith in
-    let e = rw z at c.in-None.ensures.value in
-    record { value = sym (field_none i c.args.count bs (omega arith) (sym e)); fault = refl }
+pub loop-field-preserved : goal.loop-field-preserved
+loop-field-preserved c =
+    let s = c.in-Some.ensures.steps in
+    let i = c.loop-field.invariant in
+    let x = was_some Field c.read_field.result c.in_ok-ok_or.field-0 c.in_ok-ok_or.ensures.value in
+    let n = c.push.ensures.len in
+    let m = s.1 in
+    record {
+      size = s.0.0 ∙ i.size;
+      long = long_on _ _ _ _ _ s.1 s.0.1.0 (s.0.1.1 ∙ i.size) i.long;
+      room = omega arith;
+      read = ap (λ xs. in_front xs (fields (take_count c.next.new.self) (chunks_exact_rest (take_source c.next.new.self)))) c.push.ensures.items
+          ∙ front_on _ _ _ _ _ s.1 s.0.1.0 (s.0.1.1 ∙ i.size) c.loop-field.numbers.items c.in_ok-ok_or.field-0 (x ∙ c.read_field.ensures.value) ∙ i.read;
+    }
 
-pub loop-i-preserved : goal.loop-i-preserved
-loop-i-preserved c =
-    let i = c.loop-i.i in
-    let bs = c.args.bytes.now in
-    let xs = c.loop-i.numbers in
-    let x = c.in-Some.number in
-    let z : (6 * i + 6) - 6 * i ≡ 6 = omega arith in
-    let e = rw z at c.in-Some.ensures.value in (
-      length-set xs i x ∙ c.loop-i.invariant.0,
-      ap (λ n. fields n bs) (add-one i) ∙ field_more i bs (take i xs) x c.loop-i.invariant.1 (sym e) ∙ ap Some (sym (take_more_set xs i x (omega arith))),
-    )
+pub returns : goal.returns
+returns c =
+    let i = c.loop-field.invariant in
+    let left = take_count c.loop-field.field-iterator in
+    let done : left ≡ 0 = elim (cases_lt 0 left) [
+      | inl h ↦ (let short = (c.in-None.ensures.steps h).1.0 in let six = i.size in let long = i.long in omega arith)
+      | inr h ↦ omega arith
+    ] in
+    ap (λ o. with_fields o Ok) {y = fields c.args.count c.args.bytes.now} (sym (front_all c.loop-field.numbers.items _ _ done) ∙ i.read)

@@ -1,13 +1,7 @@
-use Rattle.std.proofs.Common.{◌≡◌, ◌-◌, ◌≤◌, length, drop}
-use Rattle.lines.specs.Lines.{lines_of}
-use Rattle.texts.specs.Places.{place_from, place_of, line_numbered}
+use Rattle.std.specs.Iterator.Adapters.{enumerate_source, enumerate_count}
+use Rattle.texts.proofs.LineNumbers.{Placing}
 use Rattle.texts.proofs.line_place.line_place.Given as goal
 
-abbrev pub invariant-loop-place : goal.invariant-loop-place
-invariant-loop-place l =
-    (l.start ≤ length l.text)
-    × (place_from l.start l.left (lines_of (drop l.start l.text)) ≡ place_of l.number l.text)
-    × (line_numbered l.left (lines_of (drop l.start l.text)) ≡ line_numbered l.number (lines_of l.text))
-
-abbrev pub decreases-loop-place : goal.decreases-loop-place
-decreases-loop-place l = length l.text - l.start
+abbrev pub invariant-loop-before : goal.invariant-loop-before
+invariant-loop-before l =
+    Placing l.text l.number (enumerate_count l.before-iterator) l.start (enumerate_source l.before-iterator).rest.now

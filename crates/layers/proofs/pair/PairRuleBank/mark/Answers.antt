@@ -11,11 +11,11 @@ returns-then-rule-n g c =
     let A = g.A.RuleBank.meaning s.first in
     let B = g.B.RuleBank.meaning s.second in
     let v = take (max A.width B.width) c.args.values.now in
-    let r = replied (pair_bank A B) c.args.rule c.args.values.now c.args.marks.now c.mark_part.new.marks _ c.mark_part.result
-    (rw (c.width-w.ensures, c.count.ensures) at c.in_default.ensures.value)
+    let r = replied (pair_bank A B) c.args.rule c.args.values.now c.args.marks.now c.mark.new.marks _ c.mark.result
+    (rw (c.width-w.ensures, c.count.ensures) at c.in_ok-check_asked.ensures.value)
     (ap (λ (f : List ℕ → Said). f v) (says_first A B c.args.rule (omega arith)))
-    (rw c.width-w.ensures at c.mark_part.ensures.value)
-    (rw c.width-w.ensures at c.mark_part.ensures.after) in
+    (rw (c.at.ensures.0, c.at.ensures.1, c.width-w.ensures) at c.mark.ensures.value)
+    (rw (c.at.ensures.0, c.at.ensures.1, c.width-w.ensures) at c.mark.ensures.after) in
     record { answer = r.0; after = r.1 }
 
 pub returns-else-rule-n : goal.returns-else-rule-n
@@ -24,9 +24,9 @@ returns-else-rule-n g c =
     let A = g.A.RuleBank.meaning s.first in
     let B = g.B.RuleBank.meaning s.second in
     let v = take (max A.width B.width) c.args.values.now in
-    let r = replied (pair_bank A B) c.args.rule c.args.values.now c.args.marks.now c.mark_part-else-rule-n.new.marks _ c.mark_part-else-rule-n.result
-    (rw (c.width-w.ensures, c.count.ensures) at c.in_default.ensures.value)
+    let r = replied (pair_bank A B) c.args.rule c.args.values.now c.args.marks.now c.mark-else-rule-n.new.marks _ c.mark-else-rule-n.result
+    (rw (c.width-w.ensures, c.count.ensures) at c.in_ok-check_asked.ensures.value)
     (ap (λ (f : List ℕ → Said). f v) (says_second A B c.args.rule (omega arith)))
-    (rw (c.width-w.ensures, c.count-n.ensures) at c.mark_part-else-rule-n.ensures.value)
-    (rw (c.width-w.ensures, c.count-n.ensures) at c.mark_part-else-rule-n.ensures.after) in
+    (rw (c.at-else-rule-n.ensures.0, c.at-else-rule-n.ensures.1, c.width-w.ensures, c.count-n.ensures) at c.mark-else-rule-n.ensures.value)
+    (rw (c.at-else-rule-n.ensures.0, c.at-else-rule-n.ensures.1, c.width-w.ensures, c.count-n.ensures) at c.mark-else-rule-n.ensures.after) in
     record { answer = r.0; after = r.1 }

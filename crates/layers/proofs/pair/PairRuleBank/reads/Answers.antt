@@ -1,19 +1,19 @@
-use Rattle.std.proofs.Common.{◌-◌, ltb, ap, ◌∙◌, arith}
-use Rattle.option_set.specs.Sets.{member}
-use Rattle.layers.proofs.Replies.{first_reads, second_reads}
+use Rattle.std.proofs.Common.{arith}
+use Rattle.layer_theory.proofs.Eithers.{reads_first, reads_second}
 use Rattle.layers.proofs.pair.PairRuleBank.reads.Goals as goal
 
 pub returns-then-rule-n : goal.returns-then-rule-n
 returns-then-rule-n g c o lt =
     let s = c.args.self.now in
-    first_reads (g.A.RuleBank.meaning s.first) (g.B.RuleBank.meaning s.second) (g.A.RuleBank.reading s.first) (g.B.RuleBank.reading s.second) c.args.rule o
-    (member c.reads.result.members o) (member c.below.result.members o) (member c.common.result.members o) (c.common.ensures o)
-    (omega arith) (c.reads.ensures o lt) (c.below.ensures o lt ∙ ap (ltb o) c.width.ensures)
+    let A = g.A.RuleBank.meaning s.first in
+    let B = g.B.RuleBank.meaning s.second in
+    let e = reads_first A B c.args.rule (g.A.RuleBank.reading s.first) (g.B.RuleBank.reading s.second) (omega arith) in
+    rw e (rw (c.at.ensures.0, c.at.ensures.1) at c.reads.ensures o lt)
 
 pub returns-else-rule-n : goal.returns-else-rule-n
 returns-else-rule-n g c o lt =
     let s = c.args.self.now in
-    second_reads (g.A.RuleBank.meaning s.first) (g.B.RuleBank.meaning s.second) (g.A.RuleBank.reading s.first) (g.B.RuleBank.reading s.second) c.args.rule o
-    (member c.reads-else-rule-n.result.members o) (member c.below-else-rule-n.result.members o) (member c.common-else-rule-n.result.members o) (c.common-else-rule-n.ensures o)
-    (omega arith) (c.reads-else-rule-n.ensures o lt ∙ ap (λ n. g.B.RuleBank.reading s.second (c.args.rule - n) o) c.count-n.ensures)
-    (c.below-else-rule-n.ensures o lt ∙ ap (ltb o) c.width-else-rule-n.ensures)
+    let A = g.A.RuleBank.meaning s.first in
+    let B = g.B.RuleBank.meaning s.second in
+    let e = reads_second A B c.args.rule (g.A.RuleBank.reading s.first) (g.B.RuleBank.reading s.second) (omega arith) in
+    rw e (rw (c.at-else-rule-n.ensures.0, c.at-else-rule-n.ensures.1, c.count-n.ensures) at c.reads-else-rule-n.ensures o lt)

@@ -13,11 +13,11 @@ returns-then-values-wanted-eq0 c =
     let w = c.args.self.now.width in
     let n = c.args.self.now.count in
     let values = c.args.values.now in
-    let ready = c.in_default.ensures.ready in
+    let ready = c.in_ok-check_asked.ensures.ready in
     let o = c.args.rule % w in
     let h : o < w = mod_below c.args.rule w c.args.self.now.sized.0 in
     let e : get_or (take w values) o 0 ≡ 0 = get_or-take w values o 0 h ∙ omega arith in
-    let r = replied (wants_bank w n) c.args.rule values c.args.marks.now c.args.marks.now dead Dead c.in_default.ensures.value
+    let r = replied (wants_bank w n) c.args.rule values c.args.marks.now c.args.marks.now dead Dead c.in_ok-check_asked.ensures.value
     (wanted_dead w o h (take w values) (length-take-le w values ready.long) e) refl refl in
     record { answer = r.0; after = r.1 }
 
@@ -26,11 +26,11 @@ returns c =
     let w = c.args.self.now.width in
     let n = c.args.self.now.count in
     let values = c.args.values.now in
-    let ready = c.in_default.ensures.ready in
+    let ready = c.in_ok-check_asked.ensures.ready in
     let o = c.args.rule % w in
     let h : o < w = mod_below c.args.rule w c.args.self.now.sized.0 in
     let e : 0 < get_or (take w values) o 0 = rw (get_or-take w values o 0 h) (omega arith) in
-    let r = replied (wants_bank w n) c.args.rule values c.args.marks.now _ (live (set (take w values) o 1)) Live c.in_default.ensures.value
+    let r = replied (wants_bank w n) c.args.rule values c.args.marks.now _ (live (set (take w values) o 1)) Live c.in_ok-check_asked.ensures.value
     (wanted_live w o h (take w values) (length-take-le w values ready.long) ready.small e) refl
     (wanted_place w o values c.args.marks.now c.copy_from_slice.new.self h ready.long c.copy_from_slice.ensures.after) in
     record { answer = r.0; after = r.1 }

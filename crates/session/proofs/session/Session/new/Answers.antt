@@ -1,10 +1,6 @@
 use Rattle.std.proofs.Common.{refl}
-use Rattle.session.proofs.Keeping.{new_stands}
+use Rattle.search_theory.proofs.Kept.{new_ok}
 use Rattle.session.proofs.session.Session.new.Goals as goal
 
-pub returns : goal.returns
-returns g c = record {
-  bank = refl;
-  new = record { picks = refl; store = c.empty.ensures; searching = refl };
-  stands = new_stands (g.B.RuleBank.meaning c.args.bank) _ (record { picks = refl; store = c.empty.ensures; searching = refl });
-}
+pub invariant_of-result : goal.invariant_of-result
+invariant_of-result g c = record { stands = ∣ new_ok (g.B.RuleBank.meaning c.args.bank) _ (record { picks = refl; store = c.empty.ensures; searching = refl }) ∣₁ }

@@ -1,20 +1,26 @@
-use Rattle.std.proofs.Common.{◌≡◌, [], length, sym, ap, ◌∙◌, arith, rules}
+use Rattle.std.proofs.Common.{[], length, sym, ap, ◌∙◌, arith}
 use Rattle.std.proofs.lemmas.List.{get_or_past}
+use Rattle.arrayvec.specs.ArrayVec.{array_vec_len}
 use Rattle.clauses.specs.Literals.{numbers}
 use Rattle.trail.specs.Ring.{ring}
-use Rattle.trail.proofs.Rings.{ring_length, ring_at}
+use Rattle.trail.proofs.Rings.{ring_length, ring_read, slot_below}
 use Rattle.trail.proofs.learnt.Learnt.clause.Goals as goal
 
-pub returns-then-age-self : goal.returns-then-age-self
-returns-then-age-self c =
-    let s = c.args.self.now in
-    sym (get_or_past (ring s.count s.next s.clauses) c.args.age [] (omega (arith, ring_length s.count s.next s.clauses)))
+pub returns-then-age-len : goal.returns-then-age-len
+returns-then-age-len c = let s = c.args.self.now in sym (get_or_past (ring s.next s.clauses) c.args.age [] (omega arith))
 
 pub overflow_sub-self : goal.overflow_sub-self
-overflow_sub-self c = let s = c.args.self.now in omega (arith, s.sized.0)
+overflow_sub-self c = let s = c.args.self.now in omega (arith, s.sized.0, ring_length s.next s.clauses)
+
+pub bounds-deref-self : goal.bounds-deref-self
+bounds-deref-self c =
+    let s = c.args.self.now in
+    let below = slot_below s.next (array_vec_len s.clauses) c.args.age s.sized.1 s.sized.0 s.filling (omega (arith, ring_length s.next s.clauses)) in
+    omega (arith, below, ap length c.deref.ensures.0)
 
 pub returns : goal.returns
 returns c =
     let s = c.args.self.now in
-    let n : length s.clauses ≡ 192 = search rules in
-    ap numbers c.literals.ensures ∙ sym (ring_at s.count s.next s.clauses c.args.age _ (omega arith) (omega (arith, ring_length s.count s.next s.clauses)))
+    let below = slot_below s.next (array_vec_len s.clauses) c.args.age s.sized.1 s.sized.0 s.filling (omega (arith, ring_length s.next s.clauses)) in
+    ap numbers c.literals.ensures
+    ∙ ring_read s.next s.clauses c.deref.result.now c.args.age c.index-deref-self.result c.deref.ensures.0 below (omega (arith, ring_length s.next s.clauses)) c.index-deref-self.is

@@ -1,15 +1,11 @@
-use Rattle.std.proofs.Common.{ap, ◌∙◌, arith, below_more}
-use Rattle.search_theory.specs.Trails.{is_unset}
-use Rattle.trail.specs.View.{entry_of}
-use Rattle.trail.proofs.Tables.{found_open, not_open}
+use Rattle.std.proofs.Common.{◌≡◌, ◌≢◌, rules}
+use Rattle.std.proofs.lemmas.Iterator.{first_from_Range}
+use Rattle.search_theory.specs.Trails.{unset}
+use Rattle.trail.specs.View.{trail_of}
+use Rattle.trail.proofs.Tables.{open_is, valued_is, lowest_found}
 use Rattle.trail.proofs.trail.Trail.lowest_open.Goals as goal
 
-pub returns-then-is_open : goal.returns-then-is_open
-returns-then-is_open c =
-    let t = c.args.self.now in
-    record { within = omega arith; free = found_open t.entries c.loop-option.option (c.if-is_open.ensures ∙ ap (λ e. is_unset (entry_of e)) c.entry.ensures); lowest = c.loop-option.invariant }
-
-pub loop-option-preserved : goal.loop-option-preserved
-loop-option-preserved c =
-    let t = c.args.self.now in
-    below_more _ _ c.loop-option.invariant (not_open t.entries c.loop-option.option (c.if-is_open.ensures ∙ ap (λ e. is_unset (entry_of e)) c.entry.ensures))
+pub returns : goal.returns
+returns c =
+    let t = trail_of c.args.self.now.entries in
+    lowest_found _ t _ (first_from_Range _ _ _ _ (λ i. t i ≡ unset) (λ i. t i ≢ unset) c.find.ensures.ran (λ i q k. search (rules, open_is)) (λ i q k. search (rules, valued_is)))

@@ -1,7 +1,0 @@
-use Rattle.std.proofs.Common.{◌≡◌, ℕ, ◌<◌, false}
-use Rattle.diagrams.specs.Rows.{row_at}
-use Rattle.diagrams.specs.Causes.{arrow_bad}
-use Rattle.diagrams.proofs.check.first_arrow.Given as goal
-
-abbrev pub invariant-loop-r : goal.invariant-loop-r
-invariant-loop-r l = (k : ℕ) → k < l.r → arrow_bad k (row_at l.rows k) ≡ false

@@ -1,7 +1,0 @@
-use Rattle.std.proofs.Common.{◌≡◌, ℕ, ◌<◌, false}
-use Rattle.diagrams.specs.Rows.{row_at}
-use Rattle.diagrams.specs.Causes.{option_bad}
-use Rattle.diagrams.proofs.check.first_option.Given as goal
-
-abbrev pub invariant-loop-r : goal.invariant-loop-r
-invariant-loop-r l = (k : ℕ) → k < l.r → option_bad l.width (row_at l.rows k) ≡ false

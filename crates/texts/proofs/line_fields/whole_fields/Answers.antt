@@ -1,0 +1,14 @@
+use Rattle.std.proofs.Common.{◌+◌, length, drop, ap, ◌∙◌, arith}
+use Rattle.lines.specs.Said.{line_of}
+use Rattle.texts.specs.Fields.{whole_line}
+use Rattle.texts.proofs.FieldRows.{read_count}
+use Rattle.texts.proofs.line_fields.whole_fields.Goals as goal
+
+pub filled-requires : goal.filled-requires
+filled-requires g c =
+    let e = c.in_ok-rest_fields.ensures in
+    let r = read_count (whole_line (0 + g.row.N) (line_of c.args.line)) g.row.N (drop 1 c.args.line.bytes.now) c.in_ok-rest_fields.field-0 (e.value (omega arith)) (λ h. e.many (omega arith)) in
+    let few = r.0 in
+    let count = r.1 in
+    let same = c.deref.ensures.0 in
+    (omega arith, ap length same ∙ count)

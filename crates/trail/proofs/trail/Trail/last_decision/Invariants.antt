@@ -1,7 +1,0 @@
-use Rattle.std.proofs.Common.{ℕ, ◌<◌, ◌≢◌}
-use Rattle.search_theory.specs.Trails.{decided}
-use Rattle.trail.specs.View.{trail_of}
-use Rattle.trail.proofs.trail.Trail.last_decision.Given as goal
-
-abbrev pub invariant-loop-option : goal.invariant-loop-option
-invariant-loop-option l = (k : ℕ) → k < l.option → trail_of l.self.entries k ≢ decided l.self.depth

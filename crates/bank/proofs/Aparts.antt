@@ -1,28 +1,25 @@
 -- Options that a rule of an exact bank does not read.
-use Rattle.std.proofs.Common.{◌≡◌, ℕ, zero, suc, ◌<◌, Bool, true, false, ◌≢◌, List, [], ◌∷◌, length, get_or, set, sym, refl, ◌∙◌, inl, inr, arith, length-set}
-use Rattle.std.proofs.lemmas.Bool.{and_parts, and_from, cases_eq}
+use Rattle.std.proofs.Common.{◌≡◌, ℕ, ◌<◌, Bool, true, false, ◌≢◌, List, length, get_or, set, sym, ◌∙◌, inl, inr, arith, tests, length-set}
+use Rattle.std.proofs.lemmas.Bool.{cases_eq}
 use Rattle.std.proofs.lemmas.List.{get_or-set_same, get_or-set_other}
+use Rattle.std.specs.Cmp.Derive.{one_truth}
 use Rattle.builds.specs.Builds.{Build, bit}
 use Rattle.builds.specs.Values.{num, fits, allows}
 use Rattle.builds.specs.Answers.{live, Fitting, occurs, mark_of, answer_of}
-use Rattle.builds.proofs.Tables.{fits_at, fits_set}
+use Rattle.builds.proofs.Tables.{fits_each, fits_from, fits_at, fits_set}
 use Rattle.builds.proofs.Marking.{has, mark_only, mark_both, answer_live}
 use Rattle.builds.proofs.Answering.{got, marks, length_marks, marks_at, answer_cases, none_dead, some_live}
 use Rattle.bank.specs.Reading.{Apart, said_set}
 
 -- a value set in the table and in the build
 fits_both : (v : List ℕ) (b : Build) (o : ℕ) (x : Bool) → fits v b ≡ true → fits (set v o (num x)) (set b o x) ≡ true
-fits_both [] b o x f = refl
-fits_both (v ∷ vs) [] zero x f = refl
-fits_both (v ∷ vs) [] (suc o) x f = refl
-fits_both (v ∷ vs) (b ∷ bs) zero true f = (and_parts (allows v b) (fits vs bs) f).1
-fits_both (v ∷ vs) (b ∷ bs) zero false f = (and_parts (allows v b) (fits vs bs) f).1
-fits_both (v ∷ vs) (b ∷ bs) (suc o) x f = let q = and_parts (allows v b) (fits vs bs) f in and_from _ _ q.0 (fits_both vs bs o x q.1)
-
-same_bools : (s t : Bool) → (s ≡ true → t ≡ true) → (t ≡ true → s ≡ true) → s ≡ t
-same_bools true t f g = sym (f refl)
-same_bools false true f g = g refl
-same_bools false false f g = refl
+fits_both v b o x f = fits_from (set v o (num x)) (set b o x) (λ k l j. elim (cases_eq k o) [
+  | inl q ↦ rw (q, get_or-set_same v o (num x) 0 (rw (q, length-set) at l), get_or-set_same b o x false (rw (q, length-set) at j)) (allows_self x)
+  | inr q ↦ rw (get_or-set_other v o k (num x) 0 q, get_or-set_other b o k x false q) (fits_each v b f k (rw length-set at l) (rw length-set at j))
+])
+  where
+    allows_self : (x : Bool) → allows (num x) x ≡ true
+    allows_self x = grind (arith, tests)
 
 module _ (w : ℕ) (p : Build → Bool) (o : ℕ) (inside : o < w) (free : (b : Build) (x : Bool) → length b ≡ w → p (set b o x) ≡ p b) where
   module _ (v : List ℕ) (sized : length v ≡ w) (opened : get_or v o 0 ≡ 2) where
@@ -33,7 +30,7 @@ module _ (w : ℕ) (p : Build → Bool) (o : ℕ) (inside : o < w) (free : (b : 
     back x b g = record { long = g.long; fit = fits_set v o (num x) b opened g.fit; met = g.met }
 
     occurs_same : (x : Bool) (k : ℕ) (y : Bool) → k ≢ o → occurs w p (set v o (num x)) k y ≡ occurs w p v k y
-    occurs_same x k y ne = same_bools _ _
+    occurs_same x k y ne = one_truth _ _
         (λ e. let f = got w p (set v o (num x)) k y e in has w p v k y f.0 (back x f.0 f.1) f.2)
         (λ e. let f = got w p v k y e in has w p (set v o (num x)) k y (set f.0 o x) (move x f.0 f.1) (get_or-set_other f.0 o k x false ne ∙ f.2))
 

@@ -1,11 +1,11 @@
 -- A bank that says exactly what the definition says keeps its duties.
-use Rattle.std.proofs.Common.{◌≡◌, ℕ, zero, suc, ◌-◌, ◌<◌, ◌≤◌, Bool, true, false, leb, List, [], ◌∷◌, ◌++◌, length, get_or, take, drop, set, None, Ok, sym, refl, ap, ◌∙◌, inl, inr, arith}
-use Rattle.std.proofs.lemmas.Bool.{and_parts, cases_Bool, cases_eq, both_ways, leb-true}
-use Rattle.std.proofs.lemmas.List.{length-take-le}
+use Rattle.std.proofs.Common.{◌≡◌, ℕ, ◌-◌, ◌<◌, ◌≤◌, Bool, true, false, List, ◌++◌, length, get_or, take, drop, set, None, Ok, sym, ◌∙◌, inl, inr, arith}
+use Rattle.std.proofs.lemmas.Bool.{false_from_ne_true}
+use Rattle.std.proofs.lemmas.List.{length-take-le, ext_get_or}
 use Rattle.builds.specs.Builds.{Build}
 use Rattle.builds.specs.Values.{bits, up_to, fits}
 use Rattle.builds.specs.Answers.{Fitting, mark_of, answer_of}
-use Rattle.builds.proofs.Tables.{fits_at}
+use Rattle.builds.proofs.Tables.{up_to_at, num_of, fits_at, length_bits, bit_bits}
 use Rattle.builds.proofs.Marking.{mark_only}
 use Rattle.builds.proofs.Answering.{marks, length_marks, marks_at, mark_at_most, mark_tells, answer_cases, none_dead, some_live}
 use Rattle.bank.specs.Banks.{Duties, Honest, Lives}
@@ -19,22 +19,16 @@ use Rattle.bank.proofs.Fronts.{front_opened}
 
 -- a table without 2 has one fitting build
 full_fits : (v : List ℕ) (b : Build) → up_to 1 v ≡ true → length b ≡ length v → fits v b ≡ true → b ≡ bits v
-full_fits [] [] u l f = refl
-full_fits [] (b ∷ bs) u l f = absurd (omega arith)
-full_fits (v ∷ vs) [] u l f = absurd (omega arith)
-full_fits (zero ∷ vs) (false ∷ bs) u l f = ap (λ t. false ∷ t) (full_fits vs bs u (omega arith) f)
-full_fits (zero ∷ vs) (true ∷ bs) u l f = absurd (both_ways false refl f)
-full_fits (suc zero ∷ vs) (true ∷ bs) u l f = ap (λ t. true ∷ t) (full_fits vs bs u (omega arith) f)
-full_fits (suc zero ∷ vs) (false ∷ bs) u l f = absurd (both_ways false refl f)
-full_fits (suc (suc n) ∷ vs) (b ∷ bs) u l f = absurd (let z : suc (suc n) ≤ 1 = leb-true (suc (suc n)) 1 (and_parts (leb (suc (suc n)) 1) (up_to 1 vs) u).0 in omega arith)
+full_fits v b u l f = ext_get_or false b (bits v) (rw length_bits l) (λ k h.
+    let n = num_of (get_or v k 0) (omega (arith, up_to_at 1 v u k (omega arith))) in
+    fits_at v b k n.0 f (omega arith) h n.1 ∙ sym (bit_bits v k n.0 (omega arith) n.1))
 
 module _ (w : ℕ) (p : Build → Bool) (v : List ℕ) (sized : length v ≡ w) where
   -- a valued option is marked with its value
   pub valued : (b : Build) → Fitting w p v b → (o : ℕ) → o < w → get_or v o 0 < 2 → get_or v o 0 ≡ mark_of w p v o
-  valued b g o l k = elim (cases_eq (get_or v o 0) 1) [
-    | inl e ↦ e ∙ sym (mark_only w p v o true b g (λ c h. fits_at v c o true h.fit (omega arith) (omega (arith, h.long)) e))
-    | inr e ↦ (let z : get_or v o 0 ≡ 0 = omega arith in z ∙ sym (mark_only w p v o false b g (λ c h. fits_at v c o false h.fit (omega arith) (omega (arith, h.long)) z)))
-  ]
+  valued b g o l k =
+      let n = num_of (get_or v o 0) k in
+      n.1 ∙ sym (mark_only w p v o n.0 b g (λ c h. fits_at v c o n.0 h.fit (omega arith) (omega (arith, h.long)) n.1))
 
   lives : (b : Build) → Fitting w p v b → Lives w p v (marks w p v)
   lives b g = record {
@@ -47,7 +41,7 @@ module _ (w : ℕ) (p : Build → Bool) (v : List ℕ) (sized : length v ≡ w) 
 
   pub exact_honest : Honest w p v (answer_of w p v)
   exact_honest = elim (answer_cases w p v) [
-    | inl none ↦ rw (none_dead w p v none) (λ b l f. elim (cases_Bool (p b)) [ inr h ↦ h | inl h ↦ absurd (none b (record { long = l; fit = f; met = h })) ])
+    | inl none ↦ rw (none_dead w p v none) (λ b l f. false_from_ne_true (p b) (λ h. none b (record { long = l; fit = f; met = h })))
     | inr f ↦ rw (some_live w p v f.0 f.1) (lives f.0 f.1)
   ]
 

@@ -1,6 +1,6 @@
 -- An answer that fills the whole place, and one that is put in front of a longer place.
-use Rattle.std.proofs.Common.{◌≡◌, ℕ, ◌-◌, ◌≤◌, List, [], ◌++◌, length, take, drop, None, Ok, Option, sym, refl, arith}
-use Rattle.std.proofs.lemmas.List.{drop_all, append-nil, length-take, take-append-drop, length-take-le}
+use Rattle.std.proofs.Common.{◌≡◌, ℕ, ◌-◌, ◌≤◌, List, ◌++◌, length, take, drop, None, Ok, Option, sym, refl, arith}
+use Rattle.std.proofs.lemmas.List.{places, same_lists, drop_all, append-nil, take-append-drop, length-take-le}
 use Rattle.builds.specs.Answers.{Said, dead, live}
 use Rattle.bank.specs.declared.refusal.Answer.{Answer}
 use Rattle.bank.specs.declared.refusal.Answer.TheVariants.{Dead, Live}
@@ -16,9 +16,7 @@ live_noted s m old e l = (rw e, rw (e, drop_all (length m) old l) (sym (append-n
 pub noted_front : (w : ℕ) (s : Said) (old new : List ℕ) → w ≤ length old → ((m : List ℕ) → s ≡ live m → length m ≡ w) → new ≡ noted s (take w old) → new ++ drop w old ≡ noted s old
 noted_front w dead old new l h e = rw e (take-append-drop w old)
 noted_front w (live m) old new l h e =
-    let n : length m ≡ w = h m refl in
-    let z : drop (length m) (take w old) ≡ [] = drop_all (length m) (take w old) (simp length-take (omega arith)) in
-    rw (e, z, append-nil m, n)
+    let n = h m refl in rw e (same_lists _ _ (grind (arith, places)) (λ k d j. grind (arith, places)))
 
 -- what a call on the first w places answers and writes, put into the contract of `mark`; `w - 0` is how a part `[0..w]` is read
 pub front_opened : (w : ℕ) (f : Option ℕ) (says : ℕ → List ℕ → Said) (a : Answer) (values old new : List ℕ) → f ≡ None → w ≤ length values → w ≤ length old →

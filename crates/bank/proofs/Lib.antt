@@ -5,3 +5,5 @@ pub mod Fronts
 pub mod Aparts
 pub mod Exactness
 pub mod Agree
+pub mod First
+pub mod Refusing

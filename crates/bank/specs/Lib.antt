@@ -4,3 +4,4 @@ pub mod Exact
 pub mod Numbers
 pub mod Marking
 pub mod Asked
+pub mod Checks

@@ -10,7 +10,11 @@ use crate::refusal::Refusal;
 pub fn values_up_to(values: &[u8], w: usize, most: u8) -> bool
     ensures { result ≡ (nat_le w (length values.now) && up_to most (take w values.now)) }
 {
-    w <= values.len() && values[..w].iter().all(|value| *value <= most)
+    // no early way out: without one the compiler tests sixteen values at a time
+    w <= values.len()
+        && values[..w]
+            .iter()
+            .fold(true, |small, value| small & (*value <= most))
 }
 
 // Why a bank of `width` options and `count` rules refuses to mark, if it does.

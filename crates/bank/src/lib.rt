@@ -2,6 +2,8 @@
 #![tactic(auto)]
 
 pub mod asked;
+mod borrowed;
+pub mod check;
 pub mod refusal;
 pub mod rule_bank;
 pub mod table_fault;

@@ -36,6 +36,8 @@ pub trait RuleBank {
     // Whether the rule is dead under the values, or live with these marks.
     // At a refusal and at dead the place stays as it is; at live its first places, as many as there are options, are written.
     // Values and marks are numbers, since a caller may hand in a number that is no value: that is refusal 9.
+    // Each bank tests first what is refused, by `check_asked`. No provided method does it for all of them: what that would call
+    // next would demand a rule and places that were tested, and no public call demands anything.
     fn mark(&self, rule: usize, values: &[u8], marks: &mut [u8]) -> Result<Answer, Refusal>
         ensures answer { numbered result ≡ mark_reply (meaning self.now) rule values.now (length marks.old) }
         ensures after { marks.new ≡ mark_place (meaning self.now) rule values.now marks.old };

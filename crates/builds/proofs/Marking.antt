@@ -1,40 +1,39 @@
 -- Marks and answers, shown by builds.
-use Rattle.std.proofs.Common.{◌≡◌, ℕ, ◌<◌, Bool, true, false, ◌&&◌, List, length, get_or, sym, refl, ap, ◌∙◌, inl, inr}
-use Rattle.std.proofs.lemmas.Bool.{and_parts, and_from, cases_Bool, both_ways, cond-true, cond-false}
+use Rattle.std.proofs.Common.{◌≡◌, ℕ, ◌<◌, Bool, true, false, ◌&&◌, List, length, get_or, sym, ap, ◌∙◌, arith, tests}
+use Rattle.std.proofs.lemmas.Bool.{and_parts, and_from, both_ways, cond-true, cond-false, false_from_ne_true}
 use Rattle.std.proofs.lemmas.List.FromFn.{fill_by_all}
 use Rattle.builds.specs.Builds.{Build, bit, same, some_build}
 use Rattle.builds.specs.Values.{num, fits}
 use Rattle.builds.specs.Answers.{dead, live, Fitting, occurs, mark_of, answer_of}
-use Rattle.builds.proofs.Somes.{found, finds}
+use Rattle.builds.proofs.Somes.{found, finds, some←}
 
-same_self : (x y : Bool) → y ≡ x → same x y ≡ true
-same_self true y e = e
-same_self false true e = absurd (both_ways true e refl)
-same_self false false e = refl
+same_self : (x : Bool) → same x x ≡ true
+same_self x = grind (arith, tests)
 
 pub same_true : (x y : Bool) → same x y ≡ true → y ≡ x
-same_true true y e = e
-same_true false true e = absurd (both_ways false refl e)
-same_true false false e = refl
+same_true x y e = grind (arith, tests)
 
 module _ (w : ℕ) (p : Build → Bool) (v : List ℕ) where
+  pub fitting : (β : Build) → (fits v β && p β) ≡ true → length β ≡ w → Fitting w p v β
+  fitting β e l = let r = and_parts (fits v β) (p β) e in record { long = l; fit = r.0; met = r.1 }
+
   pub alive : (b : Build) → Fitting w p v b → some_build w (λ b. fits v b && p b) ≡ true
   alive b g = finds w (λ b. fits v b && p b) b g.long (and_from _ _ g.fit g.met)
 
   pub has : (o : ℕ) (x : Bool) (b : Build) → Fitting w p v b → bit b o ≡ x → occurs w p v o x ≡ true
   unfolding occurs
-  has o x b g e = finds w (λ b. (fits v b && p b) && same x (bit b o)) b g.long (and_from (fits v b && p b) (same x (bit b o)) (and_from _ _ g.fit g.met) (same_self x (bit b o) e))
+  has o x b g e = finds w (λ b. (fits v b && p b) && same x (bit b o)) b g.long (and_from _ _ (and_from _ _ g.fit g.met) (rw e (same_self x)))
+
+  -- some fitting build has the value
+  pub got : (o : ℕ) (x : Bool) → occurs w p v o x ≡ true → (β : Build) × Fitting w p v β × (bit β o ≡ x)
+  unfolding occurs
+  got o x e =
+      let f = found w (λ β. (fits v β && p β) && same x (bit β o)) e in
+      let q = and_parts (fits v f.0 && p f.0) (same x (bit f.0 o)) f.2 in
+      (f.0, fitting f.0 q.0 f.1, same_true x (bit f.0 o) q.1)
 
   pub lacks : (o : ℕ) (x : Bool) → ((b : Build) → Fitting w p v b → bit b o ≡ x → ⊥) → occurs w p v o x ≡ false
-  unfolding occurs
-  lacks o x none =
-      elim (cases_Bool (some_build w (λ b. (fits v b && p b) && same x (bit b o)))) [
-        | inl e ↦ (let f = found w (λ b. (fits v b && p b) && same x (bit b o)) e in
-            let q = and_parts (fits v f.0 && p f.0) (same x (bit f.0 o)) f.2 in
-            let r = and_parts (fits v f.0) (p f.0) q.0 in
-            absurd (none f.0 (record { long = f.1; fit = r.0; met = r.1 }) (same_true x (bit f.0 o) q.1)))
-        | inr e ↦ e
-      ]
+  lacks o x none = false_from_ne_true _ (λ e. let f = got o x e in none f.0 f.1 f.2)
 
   pub mark_both : (o : ℕ) (b c : Build) → Fitting w p v b → bit b o ≡ false → Fitting w p v c → bit c o ≡ true → mark_of w p v o ≡ 2
   unfolding mark_of
@@ -51,12 +50,4 @@ module _ (w : ℕ) (p : Build → Bool) (v : List ℕ) where
 
   pub answer_dead : ((b : Build) → length b ≡ w → fits v b ≡ true → p b ≡ false) → answer_of w p v ≡ dead
   unfolding answer_of
-  answer_dead none =
-      let empty : some_build w (λ b. fits v b && p b) ≡ false =
-      elim (cases_Bool (some_build w (λ b. fits v b && p b))) [
-        | inl e ↦ (let f = found w (λ b. fits v b && p b) e in
-            let r = and_parts (fits v f.0) (p f.0) f.2 in
-            absurd (both_ways (p f.0) (none f.0 f.1 r.0) r.1))
-        | inr e ↦ e
-      ] in
-      cond-false _ _ _ empty
+  answer_dead none = cond-false _ _ _ (some← w (λ b. fits v b && p b) (λ b l. false_from_ne_true _ (λ e. let g = fitting b e l in both_ways _ (none b l g.fit) g.met)))

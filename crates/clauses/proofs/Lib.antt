@@ -1,5 +1,4 @@
 pub mod Literals
 pub mod Scans
 pub mod Tables
-pub mod Items
-pub mod Adds
+pub mod Openings

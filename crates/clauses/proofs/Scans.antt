@@ -1,6 +1,7 @@
 -- A scanned clause says all that the builds that fit say.
 use Rattle.std.proofs.Common.{◌≡◌, ℕ, ◌/◌, ◌%◌, ◌<◌, ◌≤◌, Bool, true, false, not, ◌||◌, ltb, ◌≢◌, ◌⊎◌, List, [], ◌∷◌, ◌++◌, length, get_or, take, set, sym, refl, ap, ◌∙◌, inl, inr, arith, length-set}
-use Rattle.std.proofs.Math.Bool.{or-false, or_self}
+use Rattle.std.proofs.Math.Bool.{or-false, or_self, or_assoc}
+use Rattle.std.proofs.lemmas.Bool.Decides.{nat_tests}
 use Rattle.std.proofs.lemmas.Bool.{cases_eq, cases_lt, both_ways, and_parts, ltb-true, eq-eqb, ne_eqb, lt-ltb, le-ltb, or_left, or_right}
 use Rattle.std.proofs.lemmas.List.{get_or-set_same, get_or-set_other, get_or_default, get_or-take, append-nil, append_assoc, length-take-le}
 use Rattle.builds.specs.Builds.{Build, bit, same}
@@ -19,18 +20,11 @@ use Rattle.clauses.specs.Scan.{joins, stepped, scanned, clause_says}
 -- one more literal at the end of a clause
 pub meets_push : (ls : List ℕ) (l : ℕ) (b : Build) → clause_meets (ls ++ (l ∷ [])) b ≡ (clause_meets ls b || literal_meets l b)
 meets_push [] l b = or-false (literal_meets l b)
-meets_push (k ∷ ls) l b = ap (λ t. literal_meets k b || t) (meets_push ls l b) ∙ sym (assoc (literal_meets k b) (clause_meets ls b) (literal_meets l b))
-  where
-    assoc : (x y z : Bool) → ((x || y) || z) ≡ (x || (y || z))
-    assoc true y z = refl
-    assoc false y z = refl
+meets_push (k ∷ ls) l b = ap (λ t. literal_meets k b || t) (meets_push ls l b) ∙ sym (or_assoc (literal_meets k b) (clause_meets ls b) (literal_meets l b))
 
+-- a wanted value is a number that code writes, and a table has
 pub num_wants : (l : ℕ) → num (wants l) ≡ l % 2
-num_wants l =
-    elim (cases_eq (l % 2) 1) [
-      | inl e ↦ rw (eq-eqb (l % 2) 1 e) (sym e)
-      | inr e ↦ rw (ne_eqb (l % 2) 1 e) (omega arith)
-    ]
+num_wants l = grind (arith, nat_tests)
 
 same_is : (x y : Bool) → y ≡ x → same x y ≡ true
 same_is true y e = e
@@ -226,9 +220,3 @@ scan_front w v (l ∷ ls) s h =
 -- what a scan of a table says of the first w options
 pub scan_front_says : (v : List ℕ) (ls : List Literal) (w : ℕ) → within w (numbers ls) ≡ true → w ≤ length v → up_to 2 (take w v) ≡ true → answer_of w (clause_meets (numbers ls)) (take w v) ≡ clause_says (take w v) (scanned v Nothing ls)
 scan_front_says v ls w h l u = scan_says w (take w v) (length-take-le w v l) u ls h ∙ ap (clause_says (take w v)) (scan_front w v ls Nothing h)
-
--- the one literal that a scan leaves is of one of the first w options, and that is open
-pub scan_front_one : (v : List ℕ) (ls : List Literal) (w : ℕ) (l : Literal) → within w (numbers ls) ≡ true → w ≤ length v → up_to 2 (take w v) ≡ true → scanned v Nothing ls ≡ One l → (l.number / 2 < w) × (get_or v (l.number / 2) 0 ≡ 2)
-scan_front_one v ls w l h k u e =
-    let o = scan_one w (take w v) (length-take-le w v k) u ls l h (scan_front w v ls Nothing h ∙ e) in
-    (o.0, sym (get_or-take w v (l.number / 2) 0 o.0) ∙ o.1)

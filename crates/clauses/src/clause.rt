@@ -1,5 +1,5 @@
 // A clause: up to N literals in a place of fixed size, so that no call can fail for want of memory.
-ghost use Rattle.std.specs.Prelude.{◌≡◌, ◌<◌, ◌≤◌, true, [], ◌∷◌, ◌++◌, length};
+ghost use Rattle.std.specs.Prelude.{◌≡◌, ◌<◌, ◌≤◌, true, [], ◌∷◌, ◌++◌, length, min};
 ghost use Rattle.clauses.specs.Literals.{numbers, within};
 
 use crate::literal::Literal;
@@ -34,6 +34,7 @@ impl<const N: usize> Clause<N> {
     }
 
     // The clause of these literals. Each is a byte, since no table has an option above 127.
+    #[tactic(auto, using(crate::proofs::Literals::byte_at))]
     pub(crate) fn of(literals: &[u32]) -> Clause<N>
         requires short { length literals.now ≤ N }
         requires byte { N < 256 }
@@ -47,10 +48,10 @@ impl<const N: usize> Clause<N> {
         clause
     }
 
-    // One literal more, if there is room for it. A length of one byte ends at 255.
+    // One literal more, if there is room for it: a length of one byte ends at 255.
     pub fn push(&mut self, literal: Literal)
-        ensures full { N ≤ length self.old → self.new ≡ self.old }
-        ensures more { length self.old < N → length self.old < 255 → self.new ≡ self.old ++ literal ∷ [] }
+        ensures more { length self.old < min N 255 → self.new ≡ self.old ++ literal ∷ [] }
+        ensures full { min N 255 ≤ length self.old → self.new ≡ self.old }
     {
         let at = self.len as usize;
         if at < N && at < 255 {

@@ -1,12 +1,15 @@
 // The limits of a clause table, and the first clause that breaks one.
-ghost use Rattle.std.specs.Prelude.{◌≡◌, not, map, length, OnOk};
+ghost use Rattle.std.specs.Prelude.{◌≡◌, [], not, map, length, slice_index_or};
 ghost use Rattle.bank.specs.Numbers.{located};
+ghost use Rattle.bank.specs.Checks.{first};
 ghost use Rattle.clauses.specs.Literals.{within as within_of};
-ghost use Rattle.clauses.specs.Opening.{too_many as too_many_of, first_item, Opens, open_cause, opened};
+ghost use Rattle.clauses.specs.Opening.{too_many as too_many_of, open_cause};
 
+use bank::check::{check_width, refused_at};
 use bank::table_fault::{TableCause, TableFault};
 
 // Whether there is no place for the item, or no place in it for so many literals.
+// Groups have a `too_many`, searches for it and a `room_for` of their own: the limits are this kind's own, and one function with the limits as parameters would be no shorter than the test.
 pub fn too_many(item: usize, literals: usize) -> bool
     ensures { result ≡ too_many_of item literals }
 {
@@ -14,6 +17,7 @@ pub fn too_many(item: usize, literals: usize) -> bool
 }
 
 // Whether each literal is of an option below the width.
+// Groups have a `within` of their own: their numbers are not halved, and a shared one would be no plainer, since it takes a closure that is all of it.
 pub fn within(literals: &[u32], width: usize) -> bool
     ensures { result ≡ within_of width literals.now }
 {
@@ -24,7 +28,7 @@ pub fn within(literals: &[u32], width: usize) -> bool
 
 // The first item that has no place.
 fn first_too_many(clauses: &[&[u32]]) -> Option<usize>
-    ensures { result ≡ first_item (λ i c. too_many_of i (length c)) 0 (map (λ x. x.now) clauses.now) }
+    ensures { let cs = map (λ x. x.now) clauses.now in result ≡ first (λ i. too_many_of i (length (slice_index_or cs i []))) (length cs) }
 {
     clauses
         .iter()
@@ -34,33 +38,17 @@ fn first_too_many(clauses: &[&[u32]]) -> Option<usize>
 
 // The first item with a literal of an option at or above the width.
 fn first_outside(clauses: &[&[u32]], width: usize) -> Option<usize>
-    ensures { result ≡ first_item (λ _ c. not (within_of width c)) 0 (map (λ x. x.now) clauses.now) }
+    ensures { let cs = map (λ x. x.now) clauses.now in result ≡ first (λ i. not (within_of width (slice_index_or cs i []))) (length cs) }
 {
     clauses.iter().position(|literals| !within(literals, width))
 }
 
 // Whether these clauses over `width` options may be opened, and if not, why.
+#[tactic(auto, unfolding(crate::specs::Opening::open_cause, bank::specs::Checks::and_then))]
 pub fn check_clauses(width: usize, clauses: &[&[u32]]) -> Result<(), TableFault>
-    ensures value { located result ≡ opened (open_cause width (map (λ x. x.now) clauses.now)) }
-    ensures opens { OnOk result (Opens width (map (λ x. x.now) clauses.now)) }
+    ensures { located result ≡ open_cause width (map (λ x. x.now) clauses.now) }
 {
-    if width == 0 || width > 128 {
-        return Err(TableFault {
-            cause: TableCause::BadWidth,
-            item: 0,
-        });
-    }
-    if let Some(item) = first_too_many(clauses) {
-        return Err(TableFault {
-            cause: TableCause::TooMany,
-            item,
-        });
-    }
-    if let Some(item) = first_outside(clauses, width) {
-        return Err(TableFault {
-            cause: TableCause::OptionTooLarge,
-            item,
-        });
-    }
-    Ok(())
+    check_width(width)?;
+    refused_at(TableCause::TooMany, first_too_many(clauses))?;
+    refused_at(TableCause::OptionTooLarge, first_outside(clauses, width))
 }

@@ -1,5 +1,6 @@
 // A literal: an option and the value that is wanted of it, in one number, as dealers write it.
-ghost use Rattle.std.specs.Prelude.{◌≡◌, ◌/◌, ◌%◌};
+ghost use Rattle.std.specs.Prelude.{◌≡◌, ◌/◌};
+ghost use Rattle.clauses.specs.Clause.{wants};
 
 use option_set::OfOption;
 
@@ -31,11 +32,11 @@ impl Literal {
         (self.number / 2) as usize
     }
 
-    // The value that it wants, 0 or 1.
-    pub fn wanted(self) -> u8
-        ensures { result ≡ self.number % 2 }
+    // The value that it wants: whether the option is taken.
+    pub fn wanted(self) -> bool
+        ensures { result ≡ wants self.number }
     {
-        self.number % 2
+        self.number % 2 == 1
     }
 }
 

@@ -23,7 +23,7 @@ pub fn mark_clause(literals: &[Literal], values: &[u8], marks: &mut [u8]) -> Ans
         Left::Nothing => Answer::Dead,
         Left::One(literal) => {
             marks.copy_from_slice(values);
-            marks[literal.option()] = literal.wanted();
+            marks[literal.option()] = literal.wanted() as u8;
             Answer::Live
         }
         Left::Free => {

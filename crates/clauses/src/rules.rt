@@ -33,20 +33,23 @@ impl RuleBank for Clauses {
         self.width
     }
 
+    #[tactic(auto, using(crate::proofs::Tables::length_rules))]
     fn count(&self) -> usize {
         self.clauses.len()
     }
 
+    #[tactic(auto, unfolding(crate::specs::Table::rules_of))]
     fn reads(&self, rule: usize) -> OptionSet {
-        match self.clauses.get(rule) {
-            Some(clause) => options_of(clause.literals()),
-            None => OptionSet::empty(),
-        }
+        self.clauses
+            .get(rule)
+            .map_or(OptionSet::empty(), |clause| options_of(clause.literals()))
     }
 
+    #[tactic(auto, using(crate::proofs::Tables::length_rules))]
     fn mark(&self, rule: usize, values: &[u8], marks: &mut [u8]) -> Result<Answer, Refusal> {
         let w = self.width;
-        check_asked(w, self.clauses.len(), rule, values, marks.len())?;
+        let count = self.clauses.len();
+        check_asked(w, count, rule, values, marks.len())?;
         Ok(mark_clause(self.clauses[rule].literals(), &values[..w], &mut marks[..w]))
     }
 }

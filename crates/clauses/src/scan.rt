@@ -13,7 +13,7 @@ use crate::literal::Literal;
 fn step(found: Left, literal: Literal, value: u8) -> Left
     ensures { result ≡ stepped found literal value }
 {
-    if value == literal.wanted() {
+    if value == literal.wanted() as u8 {
         return Left::Free;
     }
     if value < 2 {

@@ -83,10 +83,8 @@ mod tests {
     fn check_order<B: RuleBank + Drop>(rt: &impl Abort, b: B) -> Result<(), Fail> {
         let mut session = Session::new(b);
         let mut place = [9u8; 6];
-        match session.complete(1000, &mut place) {
-            Ok(completion) => assert!(rt; completion.answer == Verdict::Build),
-            Err(_) => return Err(Fail::new("refused")),
-        }
+        let completion = session.complete(1000, &mut place)?;
+        assert!(rt; completion.answer == Verdict::Build);
         assert_eq!(rt; place, [1, 0, 0, 0, 1, 9]);
         Ok(())
     }

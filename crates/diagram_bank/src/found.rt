@@ -6,7 +6,7 @@ ghost use Rattle.diagram_theory.specs.Seen.{Marked, Freed};
 use sweeps::weights::Weights;
 
 // The values that an option is seen with.
-#[derive(Clone, Copy)]
+#[derive(Clone, Copy, Default)]
 pub(crate) struct Seen {
     pub zero: bool,
     pub one: bool,
@@ -40,10 +40,7 @@ impl Found {
     {
         Found {
             reached: [false; 2050],
-            seen: [Seen {
-                zero: false,
-                one: false,
-            }; 128],
+            seen: [Seen::default(); 128],
         }
     }
 
@@ -67,7 +64,7 @@ impl Found {
         ensures left { Freed true from to allowed.now.low.now (zeros self.old.seen) (zeros self.new.seen) }
         ensures taken { Freed true from to allowed.now.high.now (ones self.old.seen) (ones self.new.seen) }
     {
-        // by number: an option's place is written and both of its weights are read, in three arrays
+        // by number: `zip` with `iter_mut` was tried over the three arrays, and a proof then knows nothing of what was written
         for o in from..to {
             self.see(o, allowed.low[o], allowed.high[o]);
         }
@@ -78,6 +75,7 @@ impl Found {
         requires { length marks.old ≤ 128 }
         ensures { (o : ℕ) → o < length marks.old → slice_index marks.new o ≡ mark_from (slice_index_or (zeros self.now.seen) o false) (slice_index_or (ones self.now.seen) o false) }
     {
+        // and not by a `zip` with what is seen, which was tried: with `iter_mut` a proof then knows nothing of what was written
         for (o, mark) in marks.iter_mut().enumerate() {
             *mark = self.seen[o].mark();
         }

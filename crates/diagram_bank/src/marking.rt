@@ -1,5 +1,5 @@
 // Exact marks of one rule: a yes/no sweep from the ends says whether it is live and which nodes are, and the way down what it forces.
-ghost use Rattle.std.specs.Prelude.{◌≡◌, ℕ, ◌<◌, length, Ok};
+ghost use Rattle.std.specs.Prelude.{◌≡◌, ◌<◌, length, Ok};
 ghost use Rattle.builds.specs.Answers.{answer_of};
 ghost use Rattle.bank.specs.Numbers.{numbered};
 ghost use Rattle.bank.specs.Marking.{heard, noted};
@@ -12,7 +12,7 @@ use bank::refusal::{Answer, Refusal};
 use diagrams::table::Diagrams;
 use sweeps::root::root_of;
 use sweeps::sweep::sweep;
-use sweeps::weights::Weights;
+use sweeps::weights::{Weighed, Weights};
 
 // Marks a rule of the table. `values` and `marks` are the options' places, no more and no less.
 pub(crate) fn mark_rule(
@@ -27,9 +27,7 @@ pub(crate) fn mark_rule(
     ensures after { marks.new ≡ noted (answer_of bank.now.width (rule_meets bank.now.rows.now bank.now.roots.items rule) values.now) marks.old }
 {
     let root = root_of(bank, rule)?;
-    let mut low = [false; 128];
-    let mut high = [false; 128];
-    value_weights(values, &mut low, &mut high);
+    let (low, high) = value_weights(values);
     let allowed = Weights {
         low: &low,
         high: &high,
@@ -39,9 +37,12 @@ pub(crate) fn mark_rule(
     if !alive {
         return Ok(Answer::Dead);
     }
-    let descent = Descent {
+    let weighed = Weighed {
         bank,
-        allowed: &allowed,
+        weights: &allowed,
+    };
+    let descent = Descent {
+        weighed,
         live: &live,
     };
     let mut found = Found::nothing();

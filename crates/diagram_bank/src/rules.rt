@@ -1,9 +1,10 @@
 // The rule bank over a table of diagrams. It holds the table by a shared reference, so that it can be copied
 // and put into other banks and into a session, while the table keeps the memory that was lent to it.
-ghost use Rattle.std.specs.Prelude.{◌≡◌, ℕ, length};
+// A type of its own and no `impl RuleBank for Diagrams`: trait and table are of other crates, and Rust lets a third join them only so.
+ghost use Rattle.std.specs.Prelude.{◌≡◌, ℕ};
 ghost use Rattle.option_set.specs.Sets.{member};
-ghost use Rattle.diagram_theory.specs.Rules.{diagram_bank, diagram_reading};
-ghost use Rattle.diagram_theory.proofs.Reading.{diagram_duties, diagram_local};
+ghost use Rattle.diagram_theory.specs.Rules.{table_bank, table_reading};
+ghost use Rattle.diagram_theory.proofs.Reading.{table_duties, table_local};
 
 use crate::marking::mark_rule;
 use bank::asked::check_asked;
@@ -14,7 +15,7 @@ use option_set::OptionSet;
 
 // The options that a rule of the table reads; none where there is no such rule.
 fn options_read(table: &Diagrams<'_>, rule: usize) -> OptionSet
-    ensures { (o : ℕ) → member result.members o ≡ diagram_reading (length table.now.roots.items) table.now.rows.now table.now.roots.items rule o }
+    ensures { (o : ℕ) → member result.members o ≡ table_reading table.now rule o }
 {
     table
         .roots
@@ -28,13 +29,13 @@ pub struct DiagramRules<'b, 'a> {
 }
 
 impl<'b, 'a> RuleBank for DiagramRules<'b, 'a> {
-    ghost meaning = { λ s. diagram_bank s.table.now.width (length s.table.now.roots.items) s.table.now.rows.now s.table.now.roots.items };
+    ghost meaning = { λ s. table_bank s.table.now };
 
-    ghost duties = { λ s. diagram_duties s.table.now.width (length s.table.now.roots.items) s.table.now.rows.now s.table.now.roots.items s.table.now.sized.0 s.table.now.sized.1 s.table.now.sized.3 };
+    ghost duties = { λ s. table_duties s.table.now };
 
-    ghost reading = { λ s. diagram_reading (length s.table.now.roots.items) s.table.now.rows.now s.table.now.roots.items };
+    ghost reading = { λ s. table_reading s.table.now };
 
-    ghost local = { λ s. diagram_local s.table.now.width (length s.table.now.roots.items) s.table.now.rows.now s.table.now.roots.items };
+    ghost local = { λ s. table_local s.table.now };
 
     fn width(&self) -> usize {
         self.table.width

@@ -1,6 +1,6 @@
 // The walk of one build from a root: by the low arrow at 0, by the high arrow at 1, until an end.
 // The contract also carries the law that says what a rule is in the words of paths.
-ghost use Rattle.std.specs.Prelude.{◌≡◌, ℕ, ◌+◌, ◌<◌, ◌≤◌, length, take};
+ghost use Rattle.std.specs.Prelude.{◌≡◌, ◌+◌, ◌<◌, ◌≤◌, length, take};
 ghost use Rattle.bank.specs.Numbers.{numbered};
 ghost use Rattle.diagrams.specs.Walk.{meets_root};
 ghost use Rattle.diagram_theory.specs.Rules.{rule_meets};

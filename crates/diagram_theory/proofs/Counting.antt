@@ -1,8 +1,7 @@
 -- A sweep over the weights that a values table gives is the sum over the fitting builds: over numbers, how many there are.
-use Rattle.std.proofs.Common.{◌≡◌, ℕ, zero, suc, ◌+◌, ◌-◌, ◌%◌, ◌^◌, ◌<◌, ◌≤◌, Bool, true, false, cond, ◌&&◌, eqb, leb, List, [], ◌∷◌, length, get_or, drop, sym, refl, ap, ◌∙◌, subst, mod-eq_of_lt, pow-suc, arith}
+use Rattle.std.proofs.Common.{◌≡◌, ℕ, zero, suc, ◌+◌, ◌-◌, ◌%◌, ◌^◌, ◌<◌, ◌≤◌, Bool, true, false, cond, ◌&&◌, eqb, leb, List, [], ◌∷◌, length, get_or, drop, sym, refl, ap, ◌∙◌, mod-eq_of_lt, pow-suc, arith, tests}
 use native.Mathlib.Nat.{mod-add-mod, add-mod-mod, pow-zero, pow-le-pow_right}
 use Rattle.std.specs.List.{count_by}
-use Rattle.std.proofs.lemmas.Bool.{le-leb}
 use Rattle.std.proofs.lemmas.List.{get_or-drop, length-drop}
 use Rattle.std.proofs.lemmas.List.Recursion.{is_count_by}
 use Rattle.builds.specs.Builds.{Build}
@@ -14,18 +13,12 @@ use Rattle.diagram_theory.specs.Semirings.{Laws, Weights, over_builds, weight, w
 use Rattle.diagram_theory.specs.Models.{below_64, sum_64, modular, counts_64}
 use Rattle.diagram_theory.specs.Counts.{count_builds, opens, node_count}
 use Rattle.diagram_theory.proofs.Within.{option_below}
+use Rattle.diagram_theory.proofs.Steps.{same_over}
 use Rattle.diagram_theory.proofs.Freeing.{allows_false, allows_true}
-
--- equal at each build of that length: equal sums
-pub same_over_long : {S : Type 0} (plus : S → S → S) (m : ℕ) (f g : Build → S) → ((t : Build) → length t ≡ m → f t ≡ g t) → over_builds plus m f ≡ over_builds plus m g
-same_over_long plus zero f g e = e [] refl
-same_over_long plus (suc m) f g e =
-    ap (λ x. plus x (over_builds plus m (λ b. f (true ∷ b)))) (same_over_long plus m (λ b. f (false ∷ b)) (λ b. g (false ∷ b)) (λ b l. e (false ∷ b) (ap suc l)))
-    ∙ ap (λ x. plus (over_builds plus m (λ b. g (false ∷ b))) x) (same_over_long plus m (λ b. f (true ∷ b)) (λ b. g (true ∷ b)) (λ b l. e (true ∷ b) (ap suc l)))
 
 module _ {S : Type 0} (valid : S → Type 0) (k : Weights S) (laws : Laws valid k.zero k.one k.plus k.times) where
   -- one or zero
-  abbrev pub whether : Bool → S
+  abbrev whether : Bool → S
   whether c = cond c k.one k.zero
 
   both : (x y : Bool) → k.times (whether x) (whether y) ≡ whether (x && y)
@@ -63,11 +56,11 @@ module _ {S : Type 0} (valid : S → Type 0) (k : Weights S) (laws : Laws valid 
 
     pub sum_fits_from : (n u : ℕ) → u ≤ w
         → sum_from k w rows u n ≡ over_builds k.plus (w - u) (λ t. whether (fits (drop u v) t && ends rows n (bit_from u t)))
-    sum_fits_from n u h = same_over_long k.plus (w - u) _ _ (term_fits n u h)
+    sum_fits_from n u h = same_over k.plus (w - u) _ _ (term_fits n u h)
 
     -- over whole builds
     pub sweep_fits : (root : ℕ) → sweep_of k w rows root ≡ over_builds k.plus w (λ t. whether (fits v t && meets_root rows root t))
-    sweep_fits root = same_over_long k.plus w _ _
+    sweep_fits root = same_over k.plus w _ _
         (λ t l. ap (λ x. cond (meets_root rows root t) x k.zero) (weigh_fits v t 0 (sized ∙ sym l) (λ i z p. let q : 0 + i ≡ i = omega arith in ap (λ j. weight k j z) q ∙ e i z (omega arith)))
         ∙ chosen (meets_root rows root t) (fits v t))
 
@@ -76,14 +69,10 @@ small : (x : Bool) → cond x 1 0 ≡ cond x 1 0 % 2 ^ 64
 small true = refl
 small false = refl
 
-pub over_count : (m : ℕ) (p : Build → Bool) → over_builds sum_64 m (λ b. cond (p b) 1 0) ≡ count_builds m p % 2 ^ 64
+over_count : (m : ℕ) (p : Build → Bool) → over_builds sum_64 m (λ b. cond (p b) 1 0) ≡ count_builds m p % 2 ^ 64
 unfolding count_builds
 over_count zero p = small (p [])
-over_count (suc m) p =
-    ap (λ x. sum_64 x (over_builds sum_64 m (λ b. cond (p (true ∷ b)) 1 0))) (over_count m (λ b. p (false ∷ b)))
-    ∙ ap (λ x. sum_64 (count_builds m (λ b. p (false ∷ b)) % 2 ^ 64) x) (over_count m (λ b. p (true ∷ b)))
-    ∙ mod-add-mod (count_builds m (λ b. p (false ∷ b))) (2 ^ 64) (count_builds m (λ b. p (true ∷ b)) % 2 ^ 64)
-    ∙ add-mod-mod (count_builds m (λ b. p (false ∷ b))) (count_builds m (λ b. p (true ∷ b))) (2 ^ 64)
+over_count (suc m) p = rw (over_count m (λ b. p (false ∷ b)), over_count m (λ b. p (true ∷ b))) (mod-add-mod _ _ _ ∙ add-mod-mod _ _ _)
 
 count_none : (n : ℕ) → count_builds n (λ b. false) ≡ 0
 unfolding count_builds
@@ -91,7 +80,7 @@ count_none zero = refl
 count_none (suc n) = let e = count_none n in omega arith
 
 -- at most two to the number of open options
-pub count_open : (v : List ℕ) (p : Build → Bool) → count_builds (length v) (λ b. fits v b && p b) ≤ 2 ^ opens v
+count_open : (v : List ℕ) (p : Build → Bool) → count_builds (length v) (λ b. fits v b && p b) ≤ 2 ^ opens v
 unfolding count_builds
 count_open [] p = one (p [])
   where
@@ -113,20 +102,12 @@ count_open (suc (suc n) ∷ v) p =
     omega arith
 
 -- at most 62 open options: the count modulo 2^64 is the count
-pub count_small : (v : List ℕ) (m : ℕ) (p : Build → Bool) → length v ≡ m → opens v ≤ 62 → count_builds m (λ b. fits v b && p b) % 2 ^ 64 ≡ count_builds m (λ b. fits v b && p b)
+count_small : (v : List ℕ) (m : ℕ) (p : Build → Bool) → length v ≡ m → opens v ≤ 62 → count_builds m (λ b. fits v b && p b) % 2 ^ 64 ≡ count_builds m (λ b. fits v b && p b)
 count_small v m p l h =
-    let a : count_builds m (λ b. fits v b && p b) ≤ 2 ^ opens v = subst (λ n. count_builds n (λ b. fits v b && p b) ≤ 2 ^ opens v) l (count_open v p) in
+    let a : count_builds m (λ b. fits v b && p b) ≤ 2 ^ opens v = rw (← l) (count_open v p) in
     let c : 2 ^ opens v ≤ 2 ^ 62 = pow-le-pow_right (omega arith) h in
     let d : 2 ^ 62 < 2 ^ 64 = omega arith in
     mod-eq_of_lt (omega arith)
-
--- a part of a table has no more open options than the table
-pub opens_drop : (u : ℕ) (v : List ℕ) → opens (drop u v) ≤ opens v
-opens_drop zero v = omega arith
-opens_drop (suc u) [] = omega arith
-opens_drop (suc u) (zero ∷ v) = opens_drop u v
-opens_drop (suc u) (suc zero ∷ v) = opens_drop u v
-opens_drop (suc u) (suc (suc n) ∷ v) = let h = opens_drop u v in omega arith
 
 -- the options from 2 on, counted
 pub opens_counted : (v : List ℕ) → opens v ≡ count_by (λ x. leb 2 x) v
@@ -135,18 +116,22 @@ opens_counted v = is_count_by opens (λ x. leb 2 x) refl step v
     step : (x : ℕ) (xs : List ℕ) → opens (x ∷ xs) ≡ cond (leb 2 x) (1 + opens xs) (opens xs)
     step zero xs = refl
     step (suc zero) xs = refl
-    step (suc (suc n)) xs = let e = le-leb 2 (suc (suc n)) (omega arith) in rw e (omega arith)
+    step (suc (suc n)) xs = grind (arith, tests)
 
-turned : {S : Type 0} (e : Bool) (n u : S) → cond e n u ≡ cond (cond e false true) u n
-turned true n u = refl
-turned false n u = refl
+-- a part of a table has no more open options than the table
+opens_drop : (u : ℕ) (v : List ℕ) → opens (drop u v) ≤ opens v
+opens_drop zero v = omega arith
+opens_drop (suc u) [] = omega arith
+opens_drop (suc u) (zero ∷ v) = opens_drop u v
+opens_drop (suc u) (suc zero ∷ v) = opens_drop u v
+opens_drop (suc u) (suc (suc n) ∷ v) = let h = opens_drop u v in omega arith
 
 -- the weights that a values table gives
 pub weight_of : {S : Type 0} (k : Weights S) (w : ℕ) (v : List ℕ) → ((o : ℕ) (d : S) → o < w → get_or k.lows o d ≡ cond (eqb (get_or v o 0) 1) k.zero k.one)
     → ((o : ℕ) (d : S) → o < w → get_or k.highs o d ≡ cond (eqb (get_or v o 0) 0) k.zero k.one)
     → (o : ℕ) (z : Bool) → o < w → weight k o z ≡ cond (allows (get_or v o 0) z) k.one k.zero
-weight_of k w v el eh o true h = eh o k.one h ∙ turned (eqb (get_or v o 0) 0) k.zero k.one ∙ ap (λ x. cond x k.one k.zero) (allows_true (get_or v o 0))
-weight_of k w v el eh o false h = el o k.one h ∙ turned (eqb (get_or v o 0) 1) k.zero k.one ∙ ap (λ x. cond x k.one k.zero) (allows_false (get_or v o 0))
+weight_of k w v el eh o true h = rw (eh o k.one h, ← allows_true (get_or v o 0)) (grind (arith, tests))
+weight_of k w v el eh o false h = rw (el o k.one h, ← allows_false (get_or v o 0)) (grind (arith, tests))
 
 -- the sweep over numbers that a values table of at most 62 open options gives
 module _ (w : ℕ) (rows : List Row) (used : ℕ) (ok : Lawful w rows used) (v : List ℕ) (sized : length v ≡ w) (few : opens v ≤ 62)

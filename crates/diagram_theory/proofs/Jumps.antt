@@ -20,10 +20,9 @@ zip_last (x ∷ ls) (y ∷ hs) a b h = ap (λ ps. (x, y) ∷ ps) (zip_last ls hs
 folded_last : {S : Type 0} (f : S → S × S → S) (x : S) (ls hs : List S) (a b : S) → length ls ≡ length hs
     → fold f x (zip (reverse (a ∷ ls)) (reverse (b ∷ hs))) ≡ f (fold f x (zip (reverse ls) (reverse hs))) (a, b)
 folded_last f x ls hs a b h =
-    ap (λ l. fold f x (zip l (reverse (b ∷ hs)))) (reverse-append (a ∷ []) ls)
-    ∙ ap (λ l. fold f x (zip (reverse ls ++ a ∷ []) l)) (reverse-append (b ∷ []) hs)
-    ∙ ap (λ ps. fold f x ps) (zip_last (reverse ls) (reverse hs) a b (length-reverse ls ∙ h ∙ sym (length-reverse hs)))
-    ∙ fold_push f x (zip (reverse ls) (reverse hs)) (a, b)
+    let ra : reverse (a ∷ ls) ≡ reverse ls ++ a ∷ [] = reverse-append (a ∷ []) ls in
+    let rb : reverse (b ∷ hs) ≡ reverse hs ++ b ∷ [] = reverse-append (b ∷ []) hs in
+    rw (ra, rb, zip_last (reverse ls) (reverse hs) a b (length-reverse ls ∙ h ∙ sym (length-reverse hs))) (fold_push f x (zip (reverse ls) (reverse hs)) (a, b))
 
 -- the weights of the jumped options, folded from the last option back
 pub jumps_folded : {S : Type 0} (k : Weights S) (g v : ℕ) (x : S) → v + g ≤ length k.lows → v + g ≤ length k.highs
@@ -35,17 +34,15 @@ jumps_folded {S} k (suc g) v x a b =
     let hs = take g (drop (suc v) k.highs) in
     let same : length ls ≡ length hs =
     length-take-le g (drop (suc v) k.lows) (simp length-drop (omega arith)) ∙ sym (length-take-le g (drop (suc v) k.highs) (simp length-drop (omega arith))) in
-    ap (λ l. fold f x (zip (reverse (take (suc g) l)) (reverse (take (suc g) (drop v k.highs))))) (drop-cons k.lows v k.one (omega arith))
-    ∙ ap (λ l. fold f x (zip (reverse (take (suc g) (weight k v false ∷ drop (suc v) k.lows))) (reverse (take (suc g) l)))) (drop-cons k.highs v k.one (omega arith))
-    ∙ folded_last f x ls hs (weight k v false) (weight k v true) same
-    ∙ ap (λ y. f y (weight k v false, weight k v true)) (jumps_folded k g (suc v) x (omega arith) (omega arith))
+    rw (drop-cons k.lows v k.one (omega arith), drop-cons k.highs v k.one (omega arith))
+    (folded_last f x ls hs (weight k v false) (weight k v true) same ∙ ap (λ y. f y (weight k v false, weight k v true)) (jumps_folded k g (suc v) x (omega arith) (omega arith)))
 
 module _ {S : Type 0} (valid : S → Type 0) (k : Weights S) (laws : Laws valid k.zero k.one k.plus k.times)
     (w : ℕ) (rows : List Row) (used : ℕ) (ok : Lawful w rows used) where
   -- the options in front of a node's own, jumped
-  pub jumps_sum : (g v n : ℕ) → n < used + 2 → v + g ≡ option_of w rows n → option_of w rows n ≤ w
+  jumps_sum : (g v n : ℕ) → n < used + 2 → v + g ≡ option_of w rows n → option_of w rows n ≤ w
       → jumps k v g (node_sum k w rows n) ≡ sum_from k w rows v n
-  jumps_sum zero v n h e u = let s : option_of w rows n ≡ v = omega arith in ap (λ z. sum_from k w rows z n) s
+  jumps_sum zero v n h e u = let s : option_of w rows n ≡ v = omega arith in rw s refl
   jumps_sum (suc g) v n h e u =
       ap (λ z. k.times (k.plus (weight k v false) (weight k v true)) z) (jumps_sum g (suc v) n h (omega arith) u)
       ∙ sym (jump valid k laws w rows used ok v n h (omega arith) (omega arith))
@@ -54,8 +51,7 @@ module _ {S : Type 0} (valid : S → Type 0) (k : Weights S) (laws : Laws valid 
   pub through_turn : (v n : ℕ) → n < used + 2 → v ≤ option_of w rows n → (to : ℕ) (x y : S)
       → to ≡ option_of w rows n → x ≡ node_sum k w rows n → y ≡ jumps k v (to - v) x → y ≡ sum_from k w rows v n
   through_turn v n h u to x y et ex ey =
-      ey ∙ ap (λ t. jumps k v (t - v) x) et ∙ ap (λ z. jumps k v (option_of w rows n - v) z) ex
-      ∙ jumps_sum (option_of w rows n - v) v n h (omega arith) (option_below w rows used ok n h)
+      rw (ey, et, ex) (jumps_sum (option_of w rows n - v) v n h (omega arith) (option_below w rows used ok n h))
 
   -- the value of a row's node, from what the code reads and calls
   pub node_turn : (r : ℕ) → r < used → w ≤ length k.lows → w ≤ length k.highs → (a b lo hi p q x : S)
@@ -70,11 +66,4 @@ module _ {S : Type 0} (valid : S → Type 0) (k : Weights S) (laws : Laws valid 
       let two : r + 2 ≡ suc (suc r) = omega arith in
       let lo-is : get_or k.lows v lo ≡ weight k v false = get_or_default k.lows v lo k.one (omega arith) in
       let hi-is : get_or k.highs v hi ≡ weight k v true = get_or_default k.highs v hi k.one (omega arith) in
-      let p-is : p ≡ k.times (weight k v false) (sum_from k w rows (suc v) (row_at rows r).low) =
-      ep ∙ ap (λ z. k.times z a) lo-is ∙ ap (λ z. k.times (weight k v false) z) (ea ∙ ap (λ z. sum_from k w rows z (row_at rows r).low) up) in
-      let q-is : q ≡ k.times (weight k v true) (sum_from k w rows (suc v) (row_at rows r).high) =
-      eq ∙ ap (λ z. k.times z b) hi-is ∙ ap (λ z. k.times (weight k v true) z) (eb ∙ ap (λ z. sum_from k w rows z (row_at rows r).high) up) in
-      ex ∙ ap (λ z. k.plus z q) p-is
-      ∙ ap (λ z. k.plus (k.times (weight k v false) (sum_from k w rows (suc v) (row_at rows r).low)) z) q-is
-      ∙ sym (branch valid k laws w rows used ok r h)
-      ∙ ap (λ z. node_sum k w rows z) (sym two)
+      rw (ex, ep, eq, ea, eb, lo-is, hi-is, up, two) (sym (branch valid k laws w rows used ok r h))

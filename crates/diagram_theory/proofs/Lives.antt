@@ -1,6 +1,8 @@
 -- Live nodes, by the bits that show it.
-use Rattle.std.proofs.Common.{◌≡◌, ℕ, zero, suc, ◌+◌, ◌-◌, ◌<◌, ◌≤◌, Bool, true, false, cond, ◌||◌, List, [], ◌∷◌, length, get_or, sym, refl, ap, ◌∙◌, subst, arith}
-use Rattle.std.proofs.lemmas.Bool.{and_parts, and_from, both_ways}
+use Rattle.std.proofs.Common.{◌≡◌, ℕ, zero, suc, ◌+◌, ◌-◌, ◌<◌, ◌≤◌, Bool, true, false, cond, ◌||◌, List, [], ◌∷◌, length, map, get_or, sym, refl, ◌∙◌, arith, tests}
+use Rattle.std.specs.List.{range_with_len}
+use Rattle.std.proofs.lemmas.List.FromFn.{length-map-range_with_len, get_or-map-range_with_len}
+use Rattle.std.proofs.lemmas.Bool.{and_parts, and_from}
 use Rattle.builds.specs.Builds.{Build, some_build}
 use Rattle.builds.proofs.Somes.{found, finds}
 use Rattle.diagrams.specs.declared.row.Row.{Row}
@@ -15,37 +17,25 @@ use Rattle.diagram_theory.proofs.Within.{ends_within}
 over_some : (m : ℕ) (f : Build → Bool) → over_builds ◌||◌ m f ≡ some_build m f
 unfolding some_build
 over_some zero f = refl
-over_some (suc m) f =
-    ap (λ x. x || over_builds ◌||◌ m (λ b. f (true ∷ b))) (over_some m (λ b. f (false ∷ b)))
-    ∙ ap (λ x. some_build m (λ b. f (false ∷ b)) || x) (over_some m (λ b. f (true ∷ b)))
+over_some (suc m) f = rw (over_some m (λ b. f (false ∷ b)), over_some m (λ b. f (true ∷ b)))
 
 -- the bits of the options v .. v + m - 1 as a list
 abbrev pub spell : (ℕ → Bool) → ℕ → ℕ → List Bool
-spell x v zero = []
-spell x v (suc m) = x v ∷ spell x (suc v) m
-
-pub length_spell : (x : ℕ → Bool) (v m : ℕ) → length (spell x v m) ≡ m
-length_spell x v zero = refl
-length_spell x v (suc m) = ap suc (length_spell x (suc v) m)
-
-pub getD_spell : (x : ℕ → Bool) (v m i o : ℕ) → o ≡ v + i → i < m → get_or (spell x v m) i false ≡ x o
-getD_spell x v zero i o e h = absurd (omega arith)
-getD_spell x v (suc m) zero o e h = let s : o ≡ v = omega arith in ap x (sym s)
-getD_spell x v (suc m) (suc i) o e h = getD_spell x (suc v) m i o (omega arith) (omega arith)
+spell x v m = map x (range_with_len v m)
 
 -- both a test and a value
 cond_both : (c y : Bool) → cond c y false ≡ true → (c ≡ true) × (y ≡ true)
-cond_both true y h = (refl, h)
-cond_both false y h = absurd (both_ways false refl h)
+cond_both c y h = grind (arith, tests)
 
 cond_from : (c y : Bool) → c ≡ true → y ≡ true → cond c y false ≡ true
-cond_from true y e h = h
-cond_from false y e h = absurd (both_ways false refl e)
+cond_from c y e h = rw (e, h)
 
 module _ (w : ℕ) (rows : List Row) (used : ℕ) (ok : Lawful w rows used) (lows highs : List Bool) where
-  weigh_spell : (x : ℕ → Bool) (v m : ℕ) → ((o : ℕ) → v ≤ o → o < v + m → can lows highs o (x o) ≡ true) → weigh (yes_no lows highs) v (spell x v m) ≡ true
-  weigh_spell x v zero h = refl
-  weigh_spell x v (suc m) h = and_from _ _ (h v (omega arith) (omega arith)) (weigh_spell x (suc v) m (λ o p q. h o (omega arith) (omega arith)))
+  weigh_from : (v : ℕ) (t : List Bool) → ((i : ℕ) → i < length t → can lows highs (v + i) (get_or t i false) ≡ true) → weigh (yes_no lows highs) v t ≡ true
+  weigh_from v [] h = refl
+  weigh_from v (b ∷ t) h =
+      let s : v + 0 ≡ v = omega arith in
+      and_from _ _ (rw s at (h 0 (omega arith))) (weigh_from (suc v) t (λ i l. let s : v + suc i ≡ suc v + i = omega arith in rw s at (h (suc i) (omega arith))))
 
   weigh_at : (v : ℕ) (t : List Bool) → weigh (yes_no lows highs) v t ≡ true → (i : ℕ) → i < length t → can lows highs (v + i) (get_or t i false) ≡ true
   weigh_at v [] h i l = absurd (omega arith)
@@ -68,14 +58,16 @@ module _ (w : ℕ) (rows : List Row) (used : ℕ) (ok : Lawful w rows used) (low
       let l : length g.0 ≡ w - v = g.1 in (
         (bit_from v g.0),
         (λ o a b. let s : v + (o - v) ≡ o = omega arith in
-            subst (λ z. can lows highs z (get_or g.0 (o - v) false) ≡ true) s (weigh_at v g.0 p.1 (o - v) (omega arith))),
+            rw s at (weigh_at v g.0 p.1 (o - v) (omega arith))),
         p.0,
       )
 
   pub has_live : (v n : ℕ) → n < used + 2 → v ≤ w → v ≤ option_of w rows n → (x : ℕ → Bool) → From v x → ends rows n x ≡ true
       → sum_from (yes_no lows highs) w rows v n ≡ true
   has_live v n h u a x f e =
-      over_some (w - v) _ ∙ finds (w - v) (λ t. cond (ends rows n (bit_from v t)) (weigh (yes_no lows highs) v t) false) (spell x v (w - v)) (length_spell x v (w - v))
-      (cond_from (ends rows n (λ o. get_or (spell x v (w - v)) (o - v) false)) (weigh (yes_no lows highs) v (spell x v (w - v)))
-      (ends_within w rows used ok n (λ o. get_or (spell x v (w - v)) (o - v) false) x h (λ o p q. getD_spell x v (w - v) (o - v) o (omega arith) (omega arith)) ∙ e)
-      (weigh_spell x v (w - v) (λ o p q. f o p (omega arith))))
+      let at : (i o : ℕ) → i < w - v → v + i ≡ o → get_or (spell x v (w - v)) i false ≡ x o = λ i o l s. get_or-map-range_with_len x v (w - v) i o false l s in
+      let long = length-map-range_with_len x v (w - v) in
+      over_some (w - v) _ ∙ finds (w - v) (λ t. cond (ends rows n (bit_from v t)) (weigh (yes_no lows highs) v t) false) (spell x v (w - v)) long
+      (cond_from (ends rows n (bit_from v (spell x v (w - v)))) (weigh (yes_no lows highs) v (spell x v (w - v)))
+      (ends_within w rows used ok n (bit_from v (spell x v (w - v))) x h (λ o p q. at (o - v) o (omega arith) (omega arith)) ∙ e)
+      (weigh_from v (spell x v (w - v)) (λ i l. rw (at i (v + i) (omega arith) refl) (f (v + i) (omega arith) (omega arith)))))

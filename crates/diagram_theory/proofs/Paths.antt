@@ -1,9 +1,11 @@
 -- Paths and builds: what a rule says, in the words of paths.
-use Rattle.std.proofs.Common.{◌≡◌, ℕ, zero, suc, ◌+◌, ◌<◌, ◌≤◌, Bool, true, false, not, ◌&&◌, eqb, List, [], ◌∷◌, length, get_or, sym, refl, ap, ◌∙◌, subst, inl, inr, arith}
+use Rattle.std.proofs.Common.{◌≡◌, ℕ, zero, suc, ◌+◌, ◌<◌, ◌≤◌, Bool, true, false, not, ◌&&◌, eqb, List, [], ◌∷◌, length, get_or, sym, refl, ap, ◌∙◌, inl, inr, arith, tests}
+use Rattle.std.proofs.lemmas.List.FromFn.{get_or-map-range_with_len}
 use Rattle.std.proofs.lemmas.Bool.{or_cases, or_parts, and_parts, and_from, both_ways, cases_eq, cases_Bool, eq-eqb, eqb-true}
 use Rattle.builds.specs.Builds.{Build, bit, same}
-use Rattle.builds.specs.Values.{allows}
+use Rattle.builds.specs.Values.{bits, allows}
 use Rattle.builds.specs.Answers.{dead, Fitting, answer_of, Marks}
+use Rattle.builds.proofs.Tables.{fits_each, bits_fit_any, length_bits}
 use Rattle.builds.proofs.Marking.{same_true}
 use Rattle.builds.proofs.Answering.{answer_law, none_dead}
 use Rattle.diagrams.specs.declared.row.Row.{Row}
@@ -11,18 +13,16 @@ use Rattle.diagrams.specs.Rows.{row_at, option_of, Lawful}
 use Rattle.diagrams.specs.Walk.{arrow, walk, ends, meets_root}
 use Rattle.diagram_theory.specs.Paths.{Step, arrow_at, Path, path_fits, forces, Follows, FittingPath, Forced, PathLaw}
 use Rattle.diagrams.proofs.Walks.{arrow_down, arrow_up, ends_step}
-use Rattle.diagram_theory.proofs.Lives.{spell, getD_spell}
+use Rattle.diagram_theory.proofs.Lives.{spell}
 use Rattle.diagram_theory.proofs.Splices.{put, put_same, put_other}
-use Rattle.diagram_theory.proofs.Tables.{fits_each, spelled}
+use Rattle.diagram_theory.proofs.Tables.{spelled}
 
 same_false : (x y : Bool) → same x y ≡ false → y ≡ not x
-same_false true y e = e
-same_false false true e = refl
-same_false false false e = absurd (both_ways true e refl)
+same_false x y e = grind (arith, tests)
 
 -- bits that follow a path force what it forces
 follows_forces : (steps : List Step) (bits : ℕ → Bool) → Follows bits steps → (o : ℕ) (x : Bool) → forces steps o x ≡ true → bits o ≡ x
-follows_forces [] bits f o x e = absurd (both_ways false refl e)
+follows_forces [] bits f o x e = cc
 follows_forces (s ∷ steps) bits (q, f) o x e = elim (or_cases (eqb s.option o && same x s.value) (forces steps o x) e) [
   | inl a ↦ (let p = and_parts (eqb s.option o) (same x s.value) a in ap bits (sym (eqb-true s.option o p.0)) ∙ q ∙ same_true x s.value p.1)
   | inr a ↦ follows_forces steps bits f o x a
@@ -40,21 +40,15 @@ spread_against (s ∷ steps) base o x e b =
     let p = or_parts (eqb s.option o && same x s.value) (forces steps o x) e in
     elim (cases_eq o s.option) [
       | inr ne ↦ put_other (spread steps base) s.option s.value o ne ∙ spread_against steps base o x p.1 b
-      | inl at ↦ (let here : same x s.value ≡ false = subst (λ t. (t && same x s.value) ≡ false) (eq-eqb s.option o (sym at)) p.0 in
-          ap (spread (s ∷ steps) base) at ∙ put_same (spread steps base) s.option s.value ∙ same_false x s.value here)
+      | inl at ↦ rw (at, eq-eqb s.option s.option refl) (same_false x s.value (rw (eq-eqb s.option o (sym at)) at p.0))
     ]
-
-allows_own : (x : ℕ) → allows x (eqb x 1) ≡ true
-allows_own zero = refl
-allows_own (suc zero) = refl
-allows_own (suc (suc n)) = refl
 
 module _ (w : ℕ) (rows : List Row) (used : ℕ) (ok : Lawful w rows used) where
   -- the path that bits walk
   walked : (f n : ℕ) (bits : ℕ → Bool) → n ≤ f → n < used + 2 → walk rows f n bits ≡ true → (steps : List Step) × Path rows n steps × Follows bits steps
-  walked zero zero bits a h e = absurd (both_ways false refl e)
+  walked zero zero bits a h e = absurd (cc)
   walked zero (suc n) bits a h e = absurd (omega arith)
-  walked (suc f) zero bits a h e = absurd (both_ways false refl e)
+  walked (suc f) zero bits a h e = absurd (cc)
   walked (suc f) (suc zero) bits a h e = ([], refl, tt)
   walked (suc f) (suc (suc r)) bits a h e =
       let d = arrow_down w rows used ok r bits (omega arith) in
@@ -63,7 +57,7 @@ module _ (w : ℕ) (rows : List Row) (used : ℕ) (ok : Lawful w rows used) wher
 
   -- bits that follow a path end where it ends
   follows_ends : (steps : List Step) (n : ℕ) (bits : ℕ → Bool) → n < used + 2 → Path rows n steps → Follows bits steps → ends rows n bits ≡ true
-  follows_ends [] n bits h p f = subst (λ i. ends rows i bits ≡ true) (sym p) refl
+  follows_ends [] n bits h p f = rw p refl
   follows_ends (s ∷ steps) n bits h (r, e, o, p) (q, f) =
       let l : r < used = omega arith in
       let two : n ≡ suc (suc r) = omega arith in
@@ -108,15 +102,14 @@ module _ (w : ℕ) (rows : List Row) (used : ℕ) (ok : Lawful w rows used) wher
     spread_fits (s ∷ steps) base e b o h =
         let p = and_parts (allows (get_or v s.option 0) s.value) (path_fits v steps) e in
         elim (cases_eq o s.option) [
-          | inl at ↦ subst (λ i. allows (get_or v i 0) (spread (s ∷ steps) base i) ≡ true) (sym at)
-              (subst (λ z. allows (get_or v s.option 0) z ≡ true) (sym (put_same (spread steps base) s.option s.value)) p.0)
-          | inr ne ↦ subst (λ z. allows (get_or v o 0) z ≡ true) (sym (put_other (spread steps base) s.option s.value o ne)) (spread_fits steps base p.1 b o h)
+          | inl at ↦ rw (at, eq-eqb s.option s.option refl) p.0
+          | inr ne ↦ rw (put_other (spread steps base) s.option s.value o ne) (spread_fits steps base p.1 b o h)
         ]
 
     follows_fits : (steps : List Step) (lo : ℕ) (bits : ℕ → Bool) → Rising lo steps → Follows bits steps → ((o : ℕ) → o < w → allows (get_or v o 0) (bits o) ≡ true) → path_fits v steps ≡ true
     follows_fits [] lo bits a f e = refl
     follows_fits (s ∷ steps) lo bits (a, b, c) (q, f) e =
-        and_from _ _ (subst (λ z. allows (get_or v s.option 0) z ≡ true) q (e s.option b)) (follows_fits steps (suc s.option) bits c f e)
+        and_from _ _ (rw q at (e s.option b)) (follows_fits steps (suc s.option) bits c f e)
 
   module _ (root : ℕ) (inside : root < used + 2) where
     -- a build meets the root exactly if it follows a path
@@ -144,12 +137,11 @@ module _ (w : ℕ) (rows : List Row) (used : ℕ) (ok : Lawful w rows used) wher
           spelled w rows used ok root inside v sized (spread steps base) (spread_fits v steps base g.fit b)
           (follows_ends steps root (spread steps base) inside g.path (spread_follows steps 0 base (rising steps root 0 inside (omega arith) g.path)))
 
-      own : ℕ → Bool
-      own o = eqb (get_or v o 0) 1
+      abbrev own : ℕ → Bool
+      own = bit (bits v)
 
       own_fits : (o : ℕ) → o < w → allows (get_or v o 0) (own o) ≡ true
-      unfolding own
-      own_fits o h = allows_own (get_or v o 0)
+      own_fits o h = fits_each v (bits v) (bits_fit_any v) o (omega arith) (omega (arith, length_bits v))
 
       dead_none : answer_of w (meets_root rows root) v ≡ dead → (steps : List Step) → FittingPath rows root v steps → ⊥
       dead_none e steps g =
@@ -169,21 +161,20 @@ module _ (w : ℕ) (rows : List Row) (used : ℕ) (ok : Lawful w rows used) wher
               there = f.1;
               all = λ steps g. elim (cases_Bool (forces steps o x)) [
                 | inl e ↦ e
-                | inr e ↦ absurd (differs x
+                | inr e ↦ absurd (both_not x
                     (sym (spread_against steps (put own o (not x)) o x e (put_same own o (not x)))
-                    ∙ sym (getD_spell (spread steps (put own o (not x))) 0 w o o (omega arith) h)
+                    ∙ sym (get_or-map-range_with_len (spread steps (put own o (not x))) 0 w o o false h (omega arith))
                     ∙ a.all (spell (spread steps (put own o (not x))) 0 w) (build_of steps g (put own o (not x)) free)))
               ];
             }
           where
-            differs : (z : Bool) → not z ≡ z → ⊥
-            differs true e = both_ways false refl e
-            differs false e = both_ways true (e) refl
+            both_not : (z : Bool) → not z ≡ z → ⊥
+            both_not z e = grind (arith, tests)
 
             free : (i : ℕ) → i < w → allows (get_or v i 0) (put own o (not x) i) ≡ true
             free i k = elim (cases_eq i o) [
-              | inl e ↦ subst (λ j. allows (get_or v j 0) (put own o (not x) i) ≡ true) (sym e) (subst (λ n. allows n (put own o (not x) i) ≡ true) (sym opened) refl)
-              | inr e ↦ subst (λ z. allows (get_or v i 0) z ≡ true) (sym (put_other own o (not x) i e)) (own_fits i k)
+              | inl e ↦ rw (e, opened) refl
+              | inr e ↦ rw (put_other own o (not x) i e) (own_fits i k)
             ]
 
         forced_marks : Forced rows root v o x → Marks (answer_of w (meets_root rows root) v) o x

@@ -1,9 +1,10 @@
 -- Builds put together from two: the way to a node from one, the way on from another.
-use Rattle.std.proofs.Common.{◌≡◌, ℕ, suc, ◌+◌, ◌<◌, Bool, true, cond, eqb, ltb, ◌≢◌, List, sym, refl, ap, ◌∙◌, subst, inl, inr, arith}
+use Rattle.std.proofs.Common.{◌≡◌, ℕ, suc, ◌+◌, ◌<◌, Bool, true, cond, eqb, ltb, ◌≢◌, List, refl, ap, ◌∙◌, inl, inr, arith}
 use Rattle.std.proofs.lemmas.Bool.{cases_eq, cases_lt, cond-true, cond-false, eq-eqb, ne_eqb, lt-ltb, le-ltb}
 use Rattle.diagrams.specs.declared.row.Row.{Row}
 use Rattle.diagrams.specs.Rows.{row_at, option_of, Lawful}
 use Rattle.diagrams.specs.Walk.{arrow, ends}
+use Rattle.diagram_theory.specs.Paths.{arrow_at}
 use Rattle.diagram_theory.specs.Semirings.{sum_from, node_sum}
 use Rattle.diagram_theory.specs.Models.{yes_no}
 use Rattle.diagrams.proofs.Walks.{arrow_down, arrow_up, ends_step, ends_agree}
@@ -27,8 +28,8 @@ module _ (w : ℕ) (rows : List Row) (used : ℕ) (ok : Lawful w rows used) (low
 
   pub fit_put : (y : ℕ → Bool) (o : ℕ) (z : Bool) → Fit w lows highs y → can lows highs o z ≡ true → Fit w lows highs (put y o z)
   fit_put y o z f c j h = elim (cases_eq j o) [
-    | inl e ↦ rw e (subst (λ b. can lows highs o b ≡ true) (sym (put_same y o z)) c)
-    | inr e ↦ subst (λ b. can lows highs j b ≡ true) (sym (put_other y o z j e)) (f j h)
+    | inl e ↦ rw (e, eq-eqb o o refl) c
+    | inr e ↦ rw (put_other y o z j e) (f j h)
   ]
 
   -- a live node has bits that fit everywhere
@@ -40,8 +41,8 @@ module _ (w : ℕ) (rows : List Row) (used : ℕ) (ok : Lawful w rows used) (low
       let y : ℕ → Bool = λ o. cond (ltb o (option_of w rows n)) (base o) (g.0 o) in (
         y,
         (λ o l. elim (cases_lt o (option_of w rows n)) [
-          | inl b ↦ subst (λ z. can lows highs o z ≡ true) (sym (cond-true _ _ _ (lt-ltb o (option_of w rows n) b))) (f o l)
-          | inr b ↦ subst (λ z. can lows highs o z ≡ true) (sym (cond-false _ _ _ (le-ltb o (option_of w rows n) b))) (g.1 o b l)
+          | inl b ↦ rw (lt-ltb o (option_of w rows n) b) (f o l)
+          | inr b ↦ rw (le-ltb o (option_of w rows n) b) (g.1 o b l)
         ]),
         ends_agree w rows used ok n y g.0 h (λ o b. cond-false _ _ _ (le-ltb o (option_of w rows n) b)) ∙ g.2,
       )
@@ -54,14 +55,14 @@ module _ (w : ℕ) (rows : List Row) (used : ℕ) (ok : Lawful w rows used) (low
 
   -- along an arrow
   pub extend : (r : ℕ) → r < used → (b : Bool) → can lows highs (row_at rows r).option b ≡ true → Thru w rows lows highs root (suc (suc r))
-      → (y : ℕ → Bool) → Fit w lows highs y → ends rows (cond b (row_at rows r).high (row_at rows r).low) y ≡ true
+      → (y : ℕ → Bool) → Fit w lows highs y → ends rows (arrow_at rows r b) y ≡ true
       → (x : ℕ → Bool) × Met w rows lows highs root x × ((o : ℕ) → (row_at rows r).option < o → x o ≡ y o) × (x (row_at rows r).option ≡ b)
   extend r l b c through y f e =
       let v = (row_at rows r).option in
       let y2 = put y v b in
       let up = arrow_up w rows used ok r y2 l in
       let down = arrow_down w rows used ok r y2 l in
-      let way : arrow rows r y2 ≡ cond b (row_at rows r).high (row_at rows r).low = ap (λ z. cond z (row_at rows r).high (row_at rows r).low) (put_same y v b) in
+      let way : arrow rows r y2 ≡ arrow_at rows r b = ap (arrow_at rows r) (put_same y v b) in
       let met : ends rows (suc (suc r)) y2 ≡ true =
       ends_step w rows used ok r y2 l
       ∙ ends_agree w rows used ok (arrow rows r y2) y2 y (omega arith) (λ o h. put_other y v b o (omega arith))

@@ -19,12 +19,9 @@ module _ (w : ℕ) (rows : List Row) (used : ℕ) (ok : Lawful w rows used) wher
   agree_within (suc f) (suc (suc r)) x y h e =
       let l : r < used = omega arith in
       let (p, q, s, t, z) = ok r l in
-      let same : arrow rows r x ≡ arrow rows r y =
-      ap (λ b. cond b (row_at rows r).high (row_at rows r).low) (e (row_at rows r).option (omega arith) p) in
       let d = arrow_down w rows used ok r x l in
       let u = arrow_up w rows used ok r x l in
-      agree_within f (arrow rows r x) x y (omega arith) (λ o k m. e o (omega arith) m)
-      ∙ ap (λ n. walk rows f n y) same
+      agree_within f (arrow rows r x) x y (omega arith) (λ o k m. e o (omega arith) m) ∙ rw (e (row_at rows r).option (omega arith) p) refl
 
   pub ends_within : (n : ℕ) (x y : ℕ → Bool) → n < used + 2 → ((o : ℕ) → option_of w rows n ≤ o → o < w → x o ≡ y o) → ends rows n x ≡ ends rows n y
   ends_within n x y h e = agree_within n n x y h e
@@ -33,9 +30,6 @@ module _ (w : ℕ) (rows : List Row) (used : ℕ) (ok : Lawful w rows used) wher
   pub walk_turn : (n : ℕ) (bits : ℕ → Bool) (x : Bool) → 2 ≤ n → n < used + 2 → bits (row_at rows (n - 2)).option ≡ x
       → (cond x (row_at rows (n - 2)).high (row_at rows (n - 2)).low < n) × (ends rows (cond x (row_at rows (n - 2)).high (row_at rows (n - 2)).low) bits ≡ ends rows n bits)
   walk_turn n bits x a h e =
-      let r = n - 2 in
-      let l : r < used = omega arith in
-      let two : suc (suc r) ≡ n = omega arith in
-      let way : arrow rows r bits ≡ cond x (row_at rows r).high (row_at rows r).low = ap (λ b. cond b (row_at rows r).high (row_at rows r).low) e in
-      let d = arrow_down w rows used ok r bits l in
-      (omega arith, ap (λ i. ends rows i bits) (sym way) ∙ sym (ends_step w rows used ok r bits l) ∙ ap (λ i. ends rows i bits) two)
+      let two : suc (suc (n - 2)) ≡ n = omega arith in
+      let d = arrow_down w rows used ok (n - 2) bits (omega arith) in
+      rw (← e) (omega arith, sym (ends_step w rows used ok (n - 2) bits (omega arith)) ∙ ap (λ i. ends rows i bits) two)

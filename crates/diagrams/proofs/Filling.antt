@@ -4,7 +4,7 @@ use Rattle.std.proofs.lemmas.List.{get_or-set_same, get_or-set_other}
 use Rattle.std.proofs.lemmas.Bool.{cases_lt}
 use Rattle.diagrams.specs.declared.row.Row.{Row}
 use Rattle.diagrams.specs.declared.row.Root.{Root}
-use Rattle.diagrams.specs.Rows.{blank, row_at, option_of, Lawful}
+use Rattle.diagrams.specs.Rows.{blank, row_at, option_of, RowLawful, Lawful}
 use Rattle.diagrams.specs.Roots.{root_at, RootedAll, ReachingAll}
 use Rattle.diagrams.proofs.Reaching.{reaches_same}
 
@@ -29,7 +29,7 @@ pub row_others : (rows : List Row) (used : ℕ) (row : Row) → (r : ℕ) → r 
 row_others rows used row r h = get_or-set_other rows used r row blank (λ e. omega arith)
 
 pub lawful_more : (w : ℕ) (rows : List Row) (used : ℕ) (row : Row) → used < length rows
-    → (row.option < w) × (row.low < used + 2) × (row.high < used + 2) × (row.option < option_of w rows row.low) × (row.option < option_of w rows row.high)
+    → RowLawful w rows used row
     → Lawful w rows used → Lawful w (set rows used row) (used + 1)
 lawful_more w rows used row room new ok r h =
     ⊎_elim

@@ -1,4 +1,4 @@
-pub mod First
+pub mod Firsts
 pub mod Clear
 pub mod Walks
 pub mod Reaching

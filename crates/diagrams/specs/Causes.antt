@@ -1,38 +1,10 @@
 -- Why a table of diagrams, a row or a root is refused: the number of the cause, and the first item at fault, counted in its kind.
-use Rattle.std.specs.Prelude.{ℕ, zero, suc, ◌+◌, min, Bool, cond, ◌||◌, List, length, Some, None, Ok, Err, Option, Result, ◌==◌, nat_le, nat_lt, slice_index}
-use Rattle.bank.specs.declared.table_fault.TableCause.{TableCause}
-use Rattle.bank.specs.declared.table_fault.TableCause.TheVariants.{BadWidth, TooMany, OptionTooLarge, ArrowNotDown, ChildNotLater, RootUnknown}
-use Rattle.bank.specs.Numbers.{Located, cause_number}
+use Rattle.std.specs.Prelude.{ℕ, ◌+◌, min, Bool, ◌||◌, List, length, Result, nat_le, nat_lt, slice_index}
+use Rattle.bank.specs.declared.table_fault.TableCause.TheVariants.{TooMany, OptionTooLarge, ArrowNotDown, ChildNotLater, RootUnknown}
+use Rattle.bank.specs.Numbers.{Located}
+use Rattle.bank.specs.Checks.{at_item, first, refused_at, and_then, width_cause}
 use Rattle.diagrams.specs.declared.row.Row.{Row}
 use Rattle.diagrams.specs.Rows.{row_at, option_of}
-
--- the item, where the test holds of it
-abbrev pub at_item : Bool → ℕ → Option ℕ
-at_item b i = cond b (Some i) None
-
--- the earlier of two items
-abbrev pub or_later : Option ℕ → Option ℕ → Option ℕ
-or_later (Some i) later = Some i
-or_later None later = later
-
--- the first number below n that passes a test, if one does
-unfoldable pub first : (ℕ → Bool) → ℕ → Option ℕ
-first p zero = None
-first p (suc n) = or_later (first p n) (at_item (p n) n)
-
--- a check: refused for the cause at the item found, if any
-unfoldable pub refused_at : TableCause → Option ℕ → Result (Unit {0}) Located
-refused_at cause None = Ok tt
-refused_at cause (Some i) = Err (record { number = cause_number cause; item = i })
-
--- one check after another: the first that refuses counts
-unfoldable pub and_then : Result (Unit {0}) Located → Result (Unit {0}) Located → Result (Unit {0}) Located
-and_then (Ok x) later = later
-and_then (Err f) later = Err f
-
--- there are 1 to 128 options
-abbrev pub width_bad : ℕ → Bool
-width_bad w = w == 0 || nat_lt 128 w
 
 -- the option is at or above the width
 abbrev pub option_bad : ℕ → Row → Bool
@@ -57,7 +29,7 @@ room_of lent = min 2048 (length lent)
 -- a bad width; then more rows than there is room for; then too many roots
 unfoldable pub sizes_cause : ℕ → ℕ → ℕ → ℕ → Result (Unit {0}) Located
 sizes_cause room w row_count root_count =
-    and_then (refused_at BadWidth (at_item (width_bad w) 0))
+    and_then (width_cause w)
     (and_then (refused_at TooMany (at_item (nat_lt room row_count) room))
     (refused_at TooMany (at_item (nat_lt 128 root_count) 128)))
 

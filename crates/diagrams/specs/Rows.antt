@@ -15,15 +15,11 @@ option_of w rows zero = w
 option_of w rows (suc zero) = w
 option_of w rows (suc (suc r)) = (row_at rows r).option
 
--- the option is one of the table's, both arrows lead to smaller nodes, and a child that is no end has a greater option
-abbrev pub RowLawful : ℕ → List Row → ℕ → Type 0
-RowLawful w rows r =
-    ((row_at rows r).option < w)
-    × ((row_at rows r).low < r + 2)
-    × ((row_at rows r).high < r + 2)
-    × ((row_at rows r).option < option_of w rows (row_at rows r).low)
-    × ((row_at rows r).option < option_of w rows (row_at rows r).high)
+-- the row may stand at the place r: its option is one of the table's, both arrows lead to smaller nodes, and a child that is no end has a greater option
+abbrev pub RowLawful : ℕ → List Row → ℕ → Row → Type 0
+RowLawful w rows r row =
+    (row.option < w) × (row.low < r + 2) × (row.high < r + 2) × (row.option < option_of w rows row.low) × (row.option < option_of w rows row.high)
 
 -- each of the first `used` rows is lawful
 abbrev pub Lawful : ℕ → List Row → ℕ → Type 0
-Lawful w rows used = (r : ℕ) → r < used → RowLawful w rows r
+Lawful w rows used = (r : ℕ) → r < used → RowLawful w rows r (row_at rows r)

@@ -1,20 +1,24 @@
 // Filling a bank row by row and root by root, as a reader of lines does. What is refused leaves the bank as it stood.
-ghost use Rattle.std.specs.Prelude.{◌≡◌, ◌+◌, [], ◌∷◌, ◌++◌, length, set, OnErr, OnOk, slice_set};
+ghost use Rattle.std.specs.Prelude.{◌≡◌, ◌+◌, ◌<◌, [], ◌∷◌, ◌++◌, length, set, OnErr, OnOk, slice_set};
 ghost use Rattle.bank.specs.Numbers.{located};
+ghost use Rattle.diagrams.specs.Rows.{RowLawful};
 ghost use Rattle.diagrams.specs.Causes.{room_of, row_cause, root_cause};
 ghost use Rattle.diagrams.specs.Filled.{root_nodes};
 
-use crate::check::{arrow_fails, child_fails, refused_at};
+use crate::check::{arrow_fails, child_fails};
 use crate::reading::reads_of;
 use crate::row::{Root, Row};
 use crate::table::Diagrams;
+use bank::check::refused_at;
 use bank::table_fault::{TableCause, TableFault};
 
 impl<'a> Diagrams<'a> {
     // Refuses a row that cannot stand after the others.
-    #[tactic(auto, unfolding(crate::specs::Causes::row_cause, crate::specs::Causes::and_then))]
+    #[tactic(auto, unfolding(crate::specs::Causes::row_cause, bank::specs::Checks::and_then, bank::specs::Checks::refused_at))]
     fn check_row(&self, row: Row) -> Result<(), TableFault>
-        ensures { located result ≡ row_cause (room_of self.now.rows.now) self.now.width self.now.rows.now self.now.used row }
+        ensures value { located result ≡ row_cause (room_of self.now.rows.now) self.now.width self.now.rows.now self.now.used row }
+        ensures room { OnOk result (self.now.used < room_of self.now.rows.now) }
+        ensures lawful { OnOk result (RowLawful self.now.width self.now.rows.now self.now.used row) }
     {
         let item = self.used;
         let full = self.room() <= item;
@@ -28,7 +32,6 @@ impl<'a> Diagrams<'a> {
     }
 
     // Adds a row after the others. The roots keep what they read, since no arrow leads to a later row.
-    #[tactic(auto, using(crate::proofs::Clear::clear_row))]
     pub fn add_row(&mut self, row: Row) -> Result<(), TableFault>
         ensures answer { located result ≡ row_cause (room_of self.old.rows.now) self.old.width self.old.rows.now self.old.used row }
         ensures refused { OnErr result (self.new ≡ self.old) }
@@ -45,9 +48,11 @@ impl<'a> Diagrams<'a> {
     }
 
     // Refuses a root for which there is no room, or that is no node.
-    #[tactic(auto, unfolding(crate::specs::Causes::root_cause, crate::specs::Causes::and_then))]
+    #[tactic(auto, unfolding(crate::specs::Causes::root_cause, bank::specs::Checks::and_then, bank::specs::Checks::refused_at))]
     fn check_root(&self, node: u32) -> Result<(), TableFault>
-        ensures { located result ≡ root_cause self.now.used (length self.now.roots.items) node }
+        ensures value { located result ≡ root_cause self.now.used (length self.now.roots.items) node }
+        ensures room { OnOk result (length self.now.roots.items < 128) }
+        ensures node { OnOk result (node < self.now.used + 2) }
     {
         let item = self.roots.len();
         refused_at(TableCause::TooMany, self.roots.is_full().then_some(item))?;
@@ -56,7 +61,6 @@ impl<'a> Diagrams<'a> {
     }
 
     // Adds a rule: a root, with the set of the options that it reads.
-    #[tactic(auto, unfolding(crate::specs::Causes::root_cause, crate::specs::Causes::and_then, crate::specs::Causes::refused_at))]
     pub fn add_root(&mut self, node: u32) -> Result<(), TableFault>
         ensures answer { located result ≡ root_cause self.old.used (length self.old.roots.items) node }
         ensures refused { OnErr result (self.new ≡ self.old) }
@@ -66,7 +70,7 @@ impl<'a> Diagrams<'a> {
     {
         self.check_root(node)?;
         let reads = reads_of(self, node as usize);
-        self.put_root(Root { node, reads });
+        self.roots.push(Root { node, reads });
         Ok(())
     }
 }

@@ -1,10 +1,12 @@
 // What a table is refused for: one test for each cause of a row, and one search for each cause, which finds the first row at fault.
-ghost use Rattle.std.specs.Prelude.{◌≡◌, ℕ, ◌+◌, ◌^◌, ◌<◌, length, slice_index};
-ghost use Rattle.diagrams.specs.Rows.{row_at};
-ghost use Rattle.diagrams.specs.Causes.{first, option_bad, arrow_bad, child_bad, root_bad, sizes_cause, rows_cause, open_cause, refused_at};
+ghost use Rattle.std.specs.Prelude.{◌≡◌, ℕ, ◌+◌, ◌^◌, ◌<◌, ◌≤◌, length, OnOk, slice_index};
+ghost use Rattle.std.specs.List.{position, enumerate_from};
 ghost use Rattle.bank.specs.Numbers.{located};
+ghost use Rattle.diagrams.specs.Rows.{Lawful};
+ghost use Rattle.diagrams.specs.Causes.{option_bad, arrow_bad, child_bad, root_bad, sizes_cause, rows_cause, open_cause};
 
 use crate::row::{Row, option_of};
+use bank::check::{check_width, refused_at};
 use bank::table_fault::{TableCause, TableFault};
 
 // A table as a caller hands it in: it may break any rule.
@@ -32,21 +34,10 @@ pub(crate) fn child_fails(width: usize, rows: &[Row], row: Row) -> bool
         || option_of(width, rows, row.high as usize) <= option
 }
 
-// The fault of a cause at the item found, if any.
-#[tactic(auto, unfolding(crate::specs::Causes::refused_at))]
-pub(crate) fn refused_at(cause: TableCause, item: Option<usize>) -> Result<(), TableFault>
-    ensures { located result ≡ refused_at cause item }
-{
-    match item {
-        Some(item) => Err(TableFault { cause, item }),
-        None => Ok(()),
-    }
-}
-
 impl<'a> Unchecked<'a> {
     // The first row with an option at or above the width.
     fn first_option(&self) -> Option<usize>
-        ensures { result ≡ first (λ k. option_bad self.now.width (row_at self.now.rows.now k)) (length self.now.rows.now) }
+        ensures { result ≡ position (option_bad self.now.width) self.now.rows.now }
     {
         self.rows
             .iter()
@@ -55,7 +46,7 @@ impl<'a> Unchecked<'a> {
 
     // The first row with an arrow that does not lead to a smaller node.
     fn first_arrow(&self) -> Option<usize>
-        ensures { result ≡ first (λ k. arrow_bad k (row_at self.now.rows.now k)) (length self.now.rows.now) }
+        ensures { result ≡ position (λ x. arrow_bad x.0 x.1) (enumerate_from 0 self.now.rows.now) }
     {
         self.rows
             .iter()
@@ -65,7 +56,7 @@ impl<'a> Unchecked<'a> {
 
     // The first row with a child whose option is not greater.
     fn first_child(&self) -> Option<usize>
-        ensures { result ≡ first (λ k. child_bad self.now.width self.now.rows.now (row_at self.now.rows.now k)) (length self.now.rows.now) }
+        ensures { result ≡ position (child_bad self.now.width self.now.rows.now) self.now.rows.now }
     {
         self.rows
             .iter()
@@ -74,19 +65,20 @@ impl<'a> Unchecked<'a> {
 
     // The first root that is no node.
     fn first_root(&self) -> Option<usize>
-        ensures { result ≡ first (λ i. root_bad (length self.now.rows.now) (slice_index self.now.roots.now i)) (length self.now.roots.now) }
+        ensures { result ≡ position (root_bad (length self.now.rows.now)) self.now.roots.now }
     {
         let nodes = self.rows.len() + 2;
         self.roots.iter().position(|root| nodes <= *root as usize)
     }
 
     // Refuses a width or a number of rows or roots that no table has.
-    #[tactic(auto, unfolding(crate::specs::Causes::sizes_cause, crate::specs::Causes::and_then))]
+    #[tactic(auto, unfolding(crate::specs::Causes::sizes_cause, bank::specs::Checks::and_then, bank::specs::Checks::refused_at))]
     fn check_sizes(&self, room: usize) -> Result<(), TableFault>
-        ensures { located result ≡ sizes_cause room self.now.width (length self.now.rows.now) (length self.now.roots.now) }
+        ensures value { located result ≡ sizes_cause room self.now.width (length self.now.rows.now) (length self.now.roots.now) }
+        ensures wide { OnOk result ((1 ≤ self.now.width) × (self.now.width ≤ 128)) }
+        ensures few { OnOk result ((length self.now.rows.now ≤ room) × (length self.now.roots.now ≤ 128)) }
     {
-        let bad_width = self.width == 0 || self.width > 128;
-        refused_at(TableCause::BadWidth, bad_width.then_some(0))?;
+        check_width(self.width)?;
         refused_at(
             TableCause::TooMany,
             (self.rows.len() > room).then_some(room),
@@ -95,7 +87,7 @@ impl<'a> Unchecked<'a> {
     }
 
     // Refuses a bad row: each cause is looked for in all rows before the next cause.
-    #[tactic(auto, unfolding(crate::specs::Causes::rows_cause, crate::specs::Causes::and_then))]
+    #[tactic(auto, using(crate::proofs::Firsts::first_row, crate::proofs::Firsts::first_arrow), unfolding(crate::specs::Causes::rows_cause, bank::specs::Checks::and_then))]
     fn check_rows(&self) -> Result<(), TableFault>
         ensures { located result ≡ rows_cause self.now.width self.now.rows.now }
     {
@@ -105,9 +97,13 @@ impl<'a> Unchecked<'a> {
     }
 
     // Refuses a table that breaks a rule, or has more rows than there is room for.
-    #[tactic(auto, unfolding(crate::specs::Causes::roots_cause, crate::specs::Causes::and_then))]
+    #[tactic(auto, using(crate::proofs::Firsts::first_node, crate::proofs::Clear::clear_rows, crate::proofs::Clear::clear_node), unfolding(crate::specs::Causes::roots_cause, bank::specs::Checks::and_then, bank::specs::Checks::refused_at))]
     pub(crate) fn check(&self, room: usize) -> Result<(), TableFault>
-        ensures { located result ≡ open_cause room self.now.width self.now.rows.now self.now.roots.now }
+        ensures value { located result ≡ open_cause room self.now.width self.now.rows.now self.now.roots.now }
+        ensures wide { OnOk result ((1 ≤ self.now.width) × (self.now.width ≤ 128)) }
+        ensures few { OnOk result ((length self.now.rows.now ≤ room) × (length self.now.roots.now ≤ 128)) }
+        ensures lawful { OnOk result (Lawful self.now.width self.now.rows.now (length self.now.rows.now)) }
+        ensures nodes { OnOk result ((i : ℕ) → i < length self.now.roots.now → slice_index self.now.roots.now i < length self.now.rows.now + 2) }
     {
         self.check_sizes(room)?;
         self.check_rows()?;

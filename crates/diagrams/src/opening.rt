@@ -1,9 +1,8 @@
 // Opening a table: the whole of it is checked first, so that a refusal leaves the bank as it stood.
 ghost use Rattle.std.specs.Prelude.{◌≡◌, ℕ, ◌+◌, ◌<◌, ◌≤◌, [], ◌∷◌, ◌++◌, length, OnErr, OnOk, slice_index};
-ghost use Rattle.option_set.specs.Sets.{member};
 ghost use Rattle.bank.specs.Numbers.{located};
 ghost use Rattle.diagrams.specs.Rows.{Lawful};
-ghost use Rattle.diagrams.specs.Reach.{reaches};
+ghost use Rattle.diagrams.specs.Roots.{RootedAll, ReachingAll};
 ghost use Rattle.diagrams.specs.Causes.{room_of, open_cause};
 ghost use Rattle.diagrams.specs.Filled.{root_nodes, front_replaced};
 
@@ -46,37 +45,26 @@ impl<'a> Diagrams<'a> {
         self.used = rows.len();
     }
 
-    // Adds a root for which there is room, with the set of the options that it reads.
-    pub(crate) fn put_root(&mut self, root: Root)
-        requires room { length self.old.roots.items < 128 }
-        requires node { root.node < self.old.used + 2 }
-        requires reads { (o : ℕ) → member root.reads.members o ≡ reaches self.old.rows.now root.node o }
-        ensures kept { (self.new.width ≡ self.old.width) × (self.new.used ≡ self.old.used) × (self.new.rows ≡ self.old.rows) }
-        ensures roots { self.new.roots.items ≡ self.old.roots.items ++ root ∷ [] }
+    // The roots of these nodes, each with the set of the options that it reads.
+    fn roots_of(&self, nodes: &[u32]) -> ArrayVec<Root, 128>
+        requires few { length nodes.now ≤ 128 }
+        requires nodes { (i : ℕ) → i < length nodes.now → slice_index nodes.now i < self.now.used + 2 }
+        ensures nodes { root_nodes result.items ≡ nodes.now }
+        ensures rooted { RootedAll self.now.used result.items }
+        ensures reached { ReachingAll self.now.rows.now result.items }
     {
-        self.roots.push(root);
-    }
-
-    // Takes over roots that are nodes of the rows.
-    fn take_roots(&mut self, roots: &[u32])
-        requires none { self.old.roots.items ≡ [] }
-        requires few { length roots.now ≤ 128 }
-        requires nodes { (i : ℕ) → i < length roots.now → slice_index roots.now i < self.old.used + 2 }
-        ensures kept { (self.new.width ≡ self.old.width) × (self.new.used ≡ self.old.used) × (self.new.rows ≡ self.old.rows) }
-        ensures nodes { root_nodes self.new.roots.items ≡ roots.now }
-    {
-        let used = self.used;
-        let sets = reading_sets(self, used);
-        for node in roots {
-            self.put_root(Root {
+        let sets = reading_sets(self, self.used);
+        let mut roots = ArrayVec::new();
+        for node in nodes {
+            roots.push(Root {
                 node: *node,
                 reads: sets[*node as usize],
             });
         }
+        roots
     }
 
     // Fills the bank with a table of its own width, rows and roots. A table that breaks a rule is refused, and nothing has changed then.
-    #[tactic(auto, using(crate::proofs::Clear::clear_open))]
     pub fn open(&mut self, width: usize, rows: &[Row], roots: &[u32]) -> Result<(), TableFault>
         ensures answer { located result ≡ open_cause (room_of self.old.rows.now) width rows.now roots.now }
         ensures refused { OnErr result (self.new ≡ self.old) }
@@ -88,7 +76,7 @@ impl<'a> Diagrams<'a> {
         let given = Unchecked { width, rows, roots };
         given.check(self.room())?;
         self.take_rows(width, rows);
-        self.take_roots(roots);
+        self.roots = self.roots_of(roots);
         Ok(())
     }
 }

@@ -6,7 +6,7 @@ use option_set::OptionSet;
 
 // Row r is node r + 2; the arrows are node numbers, 0 and 1 being the ends.
 // Numbers and no enum: a row is written so in the lent memory and in a rule text, and a caller may hand in a wrong one.
-#[derive(Clone, Copy, PartialEq, Eq, Debug, Drop)]
+#[derive(Clone, Copy, PartialEq, Eq, Debug, Default, Drop)]
 pub struct Row {
     pub option: u32,
     pub low: u32,

@@ -1,5 +1,7 @@
 // Filling a bank row by row and root by root.
-use crate::helpers::{large_memory, refused, row};
+use crate::helpers::row;
+use bank::check::refused_at;
+use bank::table_fault::TableCause;
 use diagrams::table::Diagrams;
 use std::test::Fail;
 
@@ -28,24 +30,24 @@ fn refuses_a_row_by_its_first_cause(rt: HostRuntime) -> Result<(), Fail> {
     let mut memory = [row(9, 9, 9); 2];
     let mut bank = Diagrams::empty(&mut memory);
     bank.open(3, &[row(1, 0, 1)], &[])?;
-    assert!(rt; refused(bank.add_row(row(3, 3, 0)), 15, 1));
-    assert!(rt; refused(bank.add_row(row(1, 2, 3)), 13, 1));
-    assert!(rt; refused(bank.add_row(row(1, 0, 2)), 14, 1));
+    assert!(rt; bank.add_row(row(3, 3, 0)) == refused_at(TableCause::OptionTooLarge, Some(1)));
+    assert!(rt; bank.add_row(row(1, 2, 3)) == refused_at(TableCause::ArrowNotDown, Some(1)));
+    assert!(rt; bank.add_row(row(1, 0, 2)) == refused_at(TableCause::ChildNotLater, Some(1)));
     assert!(rt; bank.used == 1);
     bank.add_row(row(0, 0, 2))?;
-    assert!(rt; refused(bank.add_row(row(3, 9, 9)), 12, 2));
+    assert!(rt; bank.add_row(row(3, 9, 9)) == refused_at(TableCause::TooMany, Some(2)));
     assert!(rt; bank.used == 2);
     Ok(())
 }
 
 #[test]
 fn adds_rows_up_to_2048(rt: HostRuntime) -> Result<(), Fail> {
-    let mut memory = large_memory();
+    let mut memory = [row(9, 9, 9); 2050];
     let mut bank = Diagrams::empty(&mut memory);
     for _ in 0..2048 {
         bank.add_row(row(0, 1, 0))?;
     }
-    assert!(rt; refused(bank.add_row(row(0, 0, 1)), 12, 2048));
+    assert!(rt; bank.add_row(row(0, 0, 1)) == refused_at(TableCause::TooMany, Some(2048)));
     bank.add_root(2049)?;
     assert!(rt; bank.used == 2048 && bank.roots.len() == 1 && bank.roots[0].reads.contains(0));
     Ok(())
@@ -58,11 +60,11 @@ fn refuses_a_root_by_its_first_cause(rt: HostRuntime) -> Result<(), Fail> {
     bank.open(1, &[row(0, 0, 1)], &[])?;
     bank.add_root(0)?;
     bank.add_root(1)?;
-    assert!(rt; refused(bank.add_root(3), 16, 2));
+    assert!(rt; bank.add_root(3) == refused_at(TableCause::RootUnknown, Some(2)));
     for _ in 2..128 {
         bank.add_root(2)?;
     }
-    assert!(rt; refused(bank.add_root(3), 12, 128));
+    assert!(rt; bank.add_root(3) == refused_at(TableCause::TooMany, Some(128)));
     assert!(rt;
         bank.roots.len() == 128
             && bank.roots[1].reads.is_empty()

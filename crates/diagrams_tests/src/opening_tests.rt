@@ -2,10 +2,9 @@
 ghost use Rattle.std.specs.Prelude.{◌≡◌, true};
 ghost use Rattle.diagrams.specs.Filled.{front_replaced};
 
-use crate::helpers::{
-    all_roots, all_rows, four_rows, large_memory, refused, row, too_many_roots, too_many_rows,
-    untouched,
-};
+use crate::helpers::{four_rows, row, untouched};
+use bank::check::refused_at;
+use bank::table_fault::TableCause;
 use diagrams::row::Row;
 use diagrams::table::Diagrams;
 use std::test::Fail;
@@ -31,10 +30,7 @@ fn opened_over(memory: &mut [Row], table: &[Row]) -> bool
     ensures { result ≡ true → memory.new ≡ front_replaced table.now memory.old }
 {
     let mut bank = Diagrams::empty(memory);
-    match bank.open(1, table, &[]) {
-        Ok(()) => true,
-        Err(_) => false,
-    }
+    bank.open(1, table, &[]).is_ok()
 }
 
 #[test]
@@ -57,18 +53,20 @@ fn opens_once_more(rt: HostRuntime) -> Result<(), Fail> {
 
 #[test]
 fn takes_2048_rows(rt: HostRuntime) -> Result<(), Fail> {
-    let mut memory = all_rows();
+    let mut memory = [row(0, 0, 1); 2048];
     let mut bank = Diagrams::empty(&mut memory);
-    bank.open(1, &all_rows(), &[2049])?;
+    bank.open(1, &[row(0, 0, 1); 2048], &[2049])?;
     assert!(rt; bank.used == 2048 && bank.roots[0].reads.contains(0));
     Ok(())
 }
 
 #[test]
 fn refuses_2049_rows(rt: HostRuntime) {
-    let mut memory = large_memory();
+    let mut memory = [row(9, 9, 9); 2050];
     let mut bank = Diagrams::empty(&mut memory);
-    assert!(rt; refused(bank.open(1, &too_many_rows(), &[]), 12, 2048));
+    assert!(rt;
+        bank.open(1, &[row(0, 0, 1); 2049], &[]) == refused_at(TableCause::TooMany, Some(2048))
+    );
     assert!(rt; untouched(&bank));
 }
 
@@ -76,7 +74,7 @@ fn refuses_2049_rows(rt: HostRuntime) {
 fn refuses_more_rows_than_lent(rt: HostRuntime) {
     let mut memory = [row(9, 9, 9); 3];
     let mut bank = Diagrams::empty(&mut memory);
-    assert!(rt; refused(bank.open(3, &four_rows(), &too_many_roots(7)), 12, 3));
+    assert!(rt; bank.open(3, &four_rows(), &[7; 129]) == refused_at(TableCause::TooMany, Some(3)));
     assert!(rt; untouched(&bank));
 }
 
@@ -84,9 +82,11 @@ fn refuses_more_rows_than_lent(rt: HostRuntime) {
 fn takes_128_roots_and_refuses_129(rt: HostRuntime) -> Result<(), Fail> {
     let mut memory = [row(9, 9, 9); 4];
     let mut bank = Diagrams::empty(&mut memory);
-    assert!(rt; refused(bank.open(3, &four_rows(), &too_many_roots(5)), 12, 128));
+    assert!(rt;
+        bank.open(3, &four_rows(), &[5; 129]) == refused_at(TableCause::TooMany, Some(128))
+    );
     assert!(rt; untouched(&bank));
-    bank.open(3, &four_rows(), &all_roots(5))?;
+    bank.open(3, &four_rows(), &[5; 128])?;
     assert!(rt; bank.roots.len() == 128 && bank.roots[127].node == 5);
     Ok(())
 }
@@ -95,8 +95,10 @@ fn takes_128_roots_and_refuses_129(rt: HostRuntime) -> Result<(), Fail> {
 fn refuses_a_width_of_0_or_129(rt: HostRuntime) -> Result<(), Fail> {
     let mut memory = [row(9, 9, 9); 1];
     let mut bank = Diagrams::empty(&mut memory);
-    assert!(rt; refused(bank.open(0, &[row(5, 7, 7); 9], &[9]), 11, 0));
-    assert!(rt; refused(bank.open(129, &[], &[]), 11, 0));
+    assert!(rt;
+        bank.open(0, &[row(5, 7, 7); 9], &[9]) == refused_at(TableCause::BadWidth, Some(0))
+    );
+    assert!(rt; bank.open(129, &[], &[]) == refused_at(TableCause::BadWidth, Some(0)));
     assert!(rt; untouched(&bank));
     bank.open(128, &[row(127, 0, 1)], &[2])?;
     assert!(rt; bank.width == 128 && bank.roots[0].reads.contains(127));
@@ -109,31 +111,23 @@ fn names_the_first_row_of_the_first_cause(rt: HostRuntime) {
     let mut bank = Diagrams::empty(&mut memory);
     // an option too large counts before an arrow, an arrow before a child, a child before a root
     assert!(rt;
-        refused(
-            bank.open(3, &[row(1, 0, 3), row(3, 0, 1), row(3, 0, 1)], &[9]),
-            15,
-            1,
-        )
+        bank.open(3, &[row(1, 0, 3), row(3, 0, 1), row(3, 0, 1)], &[9])
+            == refused_at(TableCause::OptionTooLarge, Some(1))
     );
     assert!(rt;
-        refused(
-            bank.open(
-                3,
-                &[row(2, 0, 1), row(2, 2, 1), row(0, 4, 0), row(0, 0, 9)],
-                &[9],
-            ),
-            13,
-            2,
-        )
+        bank.open(
+            3,
+            &[row(2, 0, 1), row(2, 2, 1), row(0, 4, 0), row(0, 0, 9)],
+            &[9]
+        ) == refused_at(TableCause::ArrowNotDown, Some(2))
     );
     assert!(rt;
-        refused(
-            bank.open(3, &[row(1, 0, 1), row(1, 0, 2), row(2, 2, 0)], &[9]),
-            14,
-            1,
-        )
+        bank.open(3, &[row(1, 0, 1), row(1, 0, 2), row(2, 2, 0)], &[9])
+            == refused_at(TableCause::ChildNotLater, Some(1))
     );
-    assert!(rt; refused(bank.open(3, &four_rows(), &[5, 6, 9]), 16, 1));
+    assert!(rt;
+        bank.open(3, &four_rows(), &[5, 6, 9]) == refused_at(TableCause::RootUnknown, Some(1))
+    );
     assert!(rt; untouched(&bank));
 }
 
@@ -142,11 +136,23 @@ fn a_refusal_keeps_what_was_open(rt: HostRuntime) -> Result<(), Fail> {
     let mut memory = [row(9, 9, 9); 4];
     let mut bank = Diagrams::empty(&mut memory);
     bank.open(3, &four_rows(), &[5])?;
-    assert!(rt; refused(bank.open(2, &[row(0, 2, 0)], &[]), 13, 0));
+    assert!(rt;
+        bank.open(2, &[row(0, 2, 0)], &[]) == refused_at(TableCause::ArrowNotDown, Some(0))
+    );
     assert!(rt; bank.width == 3 && bank.used == 4 && bank.roots.len() == 1);
     let first = bank.rows[0];
     assert!(rt;
         first == row(2, 0, 1) && bank.roots[0].node == 5 && bank.roots[0].reads.contains(0)
     );
     Ok(())
+}
+
+#[test]
+fn numbers_of_causes(rt: HostRuntime) {
+    assert_eq!(rt; TableCause::BadWidth.number(), 11);
+    assert_eq!(rt; TableCause::TooMany.number(), 12);
+    assert_eq!(rt; TableCause::ArrowNotDown.number(), 13);
+    assert_eq!(rt; TableCause::ChildNotLater.number(), 14);
+    assert_eq!(rt; TableCause::OptionTooLarge.number(), 15);
+    assert_eq!(rt; TableCause::RootUnknown.number(), 16);
 }

@@ -10,11 +10,7 @@ use session::session::Session;
 
 // The rule that every build meets (the root is the 1 end), over `width` options that are all open.
 fn show_all_builds(rt: &HostRuntime, width: usize) -> anyhow::Result<()> {
-    let mut memory: [Row; 1] = [Row {
-        option: 0,
-        low: 0,
-        high: 0,
-    }];
+    let mut memory = [Row::default(); 1];
     let mut table = Diagrams::empty(&mut memory);
     table
         .open(width, &[], &[1])

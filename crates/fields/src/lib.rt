@@ -4,3 +4,9 @@
 pub mod no_field;
 pub mod read;
 pub mod write;
+
+// The columns of a field.
+pub const COLUMNS: usize = 6;
+
+// Numbers below this have six digits at most.
+pub const SEVEN_DIGITS: u32 = 1000000;

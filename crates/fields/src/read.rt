@@ -1,7 +1,9 @@
 // Reading a field: column by column from the left.
-ghost use Rattle.std.specs.Prelude.{◌≡◌, ℕ, ◌+◌, ◌-◌, ◌*◌, ◌^◌, ◌<◌, ◌≤◌, Bool, true, false, length, Some, None};
-ghost use Rattle.fields.specs.Reading.{after as after_of, number_from, field_value, FieldLaw};
+ghost use Rattle.std.specs.Prelude.{◌≡◌, true};
+ghost use Rattle.fields.specs.Reading.{after as after_of, field_value, FieldLaw};
 ghost use Rattle.fields.specs.Bounds.{seen_small};
+
+use crate::COLUMNS;
 
 // The number that the columns so far hold; none where they are only spaces.
 type Seen = Option<u32>;
@@ -24,7 +26,7 @@ pub fn read_field(bytes: &[u8]) -> Option<u32>
     ensures value { result ≡ field_value bytes.now }
     ensures law { FieldLaw }
 {
-    if bytes.len() != 6 {
+    if bytes.len() != COLUMNS {
         return None;
     }
     let mut seen = None;

@@ -1,17 +1,17 @@
 -- What a group says of a values table, shown by builds.
-use Rattle.std.proofs.Common.{◌≡◌, ℕ, zero, suc, ◌+◌, ◌<◌, ◌≤◌, Bool, true, false, not, leb, ◌≢◌, List, [], ◌∷◌, length, get_or, set, sym, refl, ◌∙◌, inl, inr, arith, length-set}
+use Rattle.std.proofs.Common.{◌≡◌, ℕ, zero, suc, ◌+◌, ◌<◌, ◌≤◌, Bool, true, false, not, eqb, leb, ◌≢◌, List, [], ◌∷◌, length, get_or, set, sym, refl, ◌∙◌, inl, inr, arith, length-set}
 use Rattle.std.proofs.lemmas.Bool.{and_parts, and_from, cases_Bool, cases_lt, cases_eq, leb-true, le-leb}
 use Rattle.std.proofs.lemmas.List.{get_or-set_same}
 use Rattle.builds.specs.Builds.{Build, bit}
 use Rattle.builds.specs.Values.{num, up_to, fits, allows}
 use Rattle.builds.specs.Answers.{dead, live, Fitting, mark_of, answer_of}
-use Rattle.builds.proofs.Tables.{up_to_at, fits_at, fits_set}
+use Rattle.builds.proofs.Tables.{up_to_at, up_to_set, fits_at, fits_set}
 use Rattle.builds.proofs.Marking.{mark_only, mark_both, answer_live}
 use Rattle.builds.proofs.Answering.{none_dead}
 use Rattle.bank.proofs.Exactness.{valued}
 use Rattle.groups.specs.Group.{taken, group_meets, among, all_below, distinct}
 use Rattle.groups.specs.Tally.{holding, settled}
-use Rattle.groups.proofs.Filling.{holding_other, holding_given, holding_apart, taken_between, up_to_set, Filled, fill}
+use Rattle.groups.proofs.Filling.{holding_other, holding_given, holding_apart, taken_between, Filled, fill}
 use Rattle.groups.proofs.Settling.{length_settled, settled_valued, settled_out, settled_in}
 
 -- a build that has the value fits the table with that value
@@ -19,9 +19,8 @@ fits_given : (v : List ℕ) (β : Build) (o : ℕ) (x : Bool) → fits v β ≡ 
 fits_given [] β o x f e = refl
 fits_given (y ∷ v) [] zero x f e = refl
 fits_given (y ∷ v) [] (suc o) x f e = refl
-fits_given (y ∷ v) (b ∷ β) zero true f e = and_from b (fits v β) e (and_parts (allows y b) (fits v β) f).1
-fits_given (y ∷ v) (b ∷ β) zero false f e = rw e (and_parts (allows y b) (fits v β) f).1
-fits_given (y ∷ v) (b ∷ β) (suc o) x f e = let q = and_parts (allows y b) (fits v β) f in and_from _ _ q.0 (fits_given v β o x q.1 e)
+fits_given (y ∷ v) (b ∷ β) zero x f e = grind (arith, e)
+fits_given (y ∷ v) (b ∷ β) (suc o) x f e = let (here, rest) = and_parts (allows y b) (fits v β) f in and_from _ _ here (fits_given v β o x rest e)
 
 -- not too many options are 1, and not too many are 0
 pub record Room (lo hi : ℕ) (os v : List ℕ) : Type 0 where
@@ -30,26 +29,23 @@ pub record Room (lo hi : ℕ) (os v : List ℕ) : Type 0 where
 
 module _ (w lo hi : ℕ) (os : List ℕ) (order : lo ≤ hi) (inside : all_below w os ≡ true) (different : distinct os ≡ true) where
   filled : (v : List ℕ) (t : ℕ) → length v ≡ w → lo ≤ t → t ≤ hi → Filled os v t → (β : Build) × Fitting w (group_meets lo hi os) v β
-  filled v t l a b f =
-      (f.build, record { long = f.long ∙ l; fit = f.fit; met = rw f.takes (and_from (leb lo t) (leb t hi) (le-leb lo t a) (le-leb t hi b)) })
+  filled v t l a b f = (f.build, record { long = f.long ∙ l; fit = f.fit; met = rw f.takes (and_from (leb lo t) (leb t hi) (le-leb lo t a) (le-leb t hi b)) })
 
   -- with room some fitting build meets the group, and only then
   room_alive : (v : List ℕ) → length v ≡ w → up_to 2 v ≡ true → Room lo hi os v → (β : Build) × Fitting w (group_meets lo hi os) v β
   room_alive v l s r =
-      let a = r.above in
-      let b = r.below in
+      let most = r.above in
+      let least = r.below in
       elim (cases_lt lo (holding 1 os v)) [
-        | inl k ↦ filled v (holding 1 os v) l (omega arith) a (fill os v (holding 1 os v) s (rw l inside) different (omega arith) (holding_apart os v))
-        | inr k ↦ filled v lo l (omega arith) order (fill os v lo s (rw l inside) different k b)
+        | inl k ↦ filled v (holding 1 os v) l (omega arith) most (fill os v (holding 1 os v) s (rw l inside) different (omega arith) (holding_apart os v))
+        | inr k ↦ filled v lo l (omega arith) order (fill os v lo s (rw l inside) different k least)
       ]
 
   alive_room : (v : List ℕ) (β : Build) → length v ≡ w → Fitting w (group_meets lo hi os) v β → Room lo hi os v
   alive_room v β l g =
-      let t = taken_between os v β (g.long ∙ sym l) g.fit (rw l inside) in
-      let m = and_parts (leb lo (taken os β)) (leb (taken os β) hi) g.met in
-      let a : lo ≤ taken os β = leb-true lo (taken os β) m.0 in
-      let b : taken os β ≤ hi = leb-true (taken os β) hi m.1 in
-      record { above = omega arith; below = omega arith }
+      let (least, most) = taken_between os v β (g.long ∙ sym l) g.fit (rw l inside) in
+      let (low, high) = and_parts (leb lo (taken os β)) (leb (taken os β) hi) g.met in
+      record { above = omega (arith, leb-true _ _ high); below = omega (arith, leb-true _ _ low) }
 
   module _ (v : List ℕ) (sized : length v ≡ w) (small : up_to 2 v ≡ true) where
     -- an open option can have the value x if there is room with it, and only then
@@ -79,13 +75,7 @@ module _ (w lo hi : ℕ) (os : List ℕ) (order : lo ≤ hi) (inside : all_below
     mark_single : (o : ℕ) (x : Bool) → Room lo hi os v → (Room lo hi os (set v o (num (not x))) → ⊥) → mark_of w (group_meets lo hi os) v o ≡ num x
     mark_single o x r no_room =
         let f = room_alive v sized small r in
-        mark_only w (group_meets lo hi os) v o x f.0 f.1 (λ β g. other x (bit β o) (λ e. no_room (with_room o (not x) β g e)))
-      where
-        other : (x b : Bool) → (b ≡ not x → ⊥) → b ≡ x
-        other true true n = refl
-        other true false n = absurd (n refl)
-        other false true n = absurd (n refl)
-        other false false n = refl
+        mark_only w (group_meets lo hi os) v o x f.0 f.1 (λ β g. let other = λ (e : bit β o ≡ not x). no_room (with_room o (not x) β g e) in grind (arith, other))
 
     pub group_dead : (Room lo hi os v → ⊥) → answer_of w (group_meets lo hi os) v ≡ dead
     group_dead no_room = none_dead w (group_meets lo hi os) v (λ β g. no_room (alive_room v β sized g))
@@ -103,12 +93,19 @@ module _ (w lo hi : ℕ) (os : List ℕ) (order : lo ≤ hi) (inside : all_below
               kept o e ∙ valued w (group_meets lo hi os) v sized f.0 f.1 o k (omega arith))
         ])
 
+    -- room that an option leaves with the value y, outside the group and in it
+    room_out : (o y : ℕ) → among os o ≡ false → Room lo hi os v → Room lo hi os (set v o y)
+    room_out o y out r = record { above = rw (holding_other 1 os v o y out) r.above; below = rw (holding_other 0 os v o y out) r.below }
+
+    room_in : (o y : ℕ) → o < w → get_or v o 0 ≡ 2 → among os o ≡ true → num (eqb y 1) + holding 1 os v ≤ hi → lo + (num (eqb y 0) + holding 0 os v) ≤ length os → Room lo hi os (set v o y)
+    room_in o y l e here a b = record {
+      above = rw (holding_given 1 os v o y (omega arith) (omega arith) e different here) a;
+      below = rw (holding_given 0 os v o y (omega arith) (omega arith) e different here) b;
+    }
+
     -- an option outside the group stays open
     mark_outside : (o : ℕ) → o < w → get_or v o 0 ≡ 2 → Room lo hi os v → among os o ≡ false → mark_of w (group_meets lo hi os) v o ≡ 2
-    mark_outside o l e r out =
-        mark_two o l e
-        (record { above = rw (holding_other 1 os v o 0 out) r.above; below = rw (holding_other 0 os v o 0 out) r.below })
-        (record { above = rw (holding_other 1 os v o 1 out) r.above; below = rw (holding_other 0 os v o 1 out) r.below })
+    mark_outside o l e r out = mark_two o l e (room_out o 0 out r) (room_out o 1 out r)
 
     -- at exactly hi ones the open options of the group are 0
     pub group_full : Room lo hi os v → holding 1 os v ≡ hi → answer_of w (group_meets lo hi os) v ≡ live (settled 0 os v)
@@ -134,13 +131,5 @@ module _ (w lo hi : ℕ) (os : List ℕ) (order : lo ≤ hi) (inside : all_below
         let r : Room lo hi os v = record { above = omega arith; below = omega arith } in
         live_by r v sized (λ o n. refl) (λ o l e. elim (cases_Bool (among os o)) [
           | inr out ↦ e ∙ sym (mark_outside o l e r out)
-          | inl here ↦ e ∙ sym (mark_two o l e
-              (record {
-                above = rw (holding_given 1 os v o 0 (omega arith) (omega arith) e different here) (omega arith);
-                below = rw (holding_given 0 os v o 0 (omega arith) (omega arith) e different here) (omega arith);
-              })
-              (record {
-                above = rw (holding_given 1 os v o 1 (omega arith) (omega arith) e different here) (omega arith);
-                below = rw (holding_given 0 os v o 1 (omega arith) (omega arith) e different here) (omega arith);
-              }))
+          | inl here ↦ e ∙ sym (mark_two o l e (room_in o 0 l e here (omega arith) (omega arith)) (room_in o 1 l e here (omega arith) (omega arith)))
         ])

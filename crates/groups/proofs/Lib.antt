@@ -1,10 +1,10 @@
 pub mod Belows
 pub mod Tallies
 pub mod Texts
-pub mod Faulty
 pub mod Places
+pub mod Clear
 pub mod Stored
 pub mod Filling
 pub mod Settling
 pub mod Answering
-pub mod Held
+pub mod Marked

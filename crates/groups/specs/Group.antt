@@ -1,5 +1,5 @@
 -- Groups: at least so many and at most so many of some different options are taken.
-use Rattle.std.specs.Prelude.{◌≡◌, ℕ, ◌+◌, ◌≤◌, Bool, true, not, ◌&&◌, List, [], ◌∷◌, length, ◌==◌, nat_le, nat_lt}
+use Rattle.std.specs.Prelude.{◌≡◌, ℕ, ◌+◌, ◌≤◌, Bool, true, not, ◌&&◌, List, [], ◌∷◌, length, ◌==◌, nat_le, nat_lt, slice_index_or}
 use Rattle.std.specs.List.{list_any, list_all}
 use Rattle.builds.specs.Builds.{Build, bit}
 use Rattle.builds.specs.Values.{num}
@@ -15,7 +15,7 @@ group_meets lo hi options β = nat_le lo (taken options β) && nat_le (taken opt
 
 -- the option is one of the list
 abbrev pub among : List ℕ → ℕ → Bool
-among os o = list_any (λ p. p == o) os
+among os o = list_any (λ p. o == p) os
 
 -- each option of the list is below w
 abbrev pub all_below : ℕ → List ℕ → Bool
@@ -38,6 +38,10 @@ rule_meets g = group_meets g.lo g.hi g.options
 -- the group that stands past the last one of a list
 abbrev pub no_rule : Rule
 no_rule = record { lo = 0; hi = 0; options = [] }
+
+-- the group at the place i
+abbrev pub rule_at : List Rule → ℕ → Rule
+rule_at gs i = slice_index_or gs i no_rule
 
 -- what a group must be to be stored: lo ≤ hi ≤ k ≤ 32, with k different options
 pub record Fair (g : Rule) : Type 0 where

@@ -1,72 +1,70 @@
-// Why groups that are handed in are refused: each cause is looked for in all of them before the next cause.
-ghost use Rattle.std.specs.Prelude.{◌≡◌, ℕ, ◌+◌, ◌^◌, ◌<◌, ◌≤◌, Bool, None, map, length, IfSome};
-ghost use Rattle.std.specs.Option.{option_map};
-ghost use Rattle.std.specs.List.{position_from};
-ghost use Rattle.std.specs.Iterator.{ActsAsAt};
+// What groups are refused for: the tests of one group, and the searches for the first group that has a cause.
+ghost use Rattle.std.specs.Prelude.{◌≡◌, ℕ, map, length};
+ghost use Rattle.std.specs.List.{position, enumerate_from};
 ghost use Rattle.bank.specs.Numbers.{located};
+ghost use Rattle.groups.specs.declared.text.GroupText.{GroupText};
 ghost use Rattle.groups.specs.Text.{told};
-ghost use Rattle.groups.specs.Faults.{misfits, causes, or_next, first_cause, replied};
+ghost use Rattle.groups.specs.Faults.{too_many as too_many_of, option_bad, bounds_bad, twice_bad, open_cause};
 
 use crate::options::{all_different, within};
 use crate::text::GroupText;
+use bank::check::{check_width, refused_at};
 use bank::table_fault::{TableCause, TableFault};
 
-// Refuses for the cause where a group has it: the first such group is at `found`, counted from `from`.
-fn none_found(cause: TableCause, from: usize, found: Option<usize>) -> Result<(), TableFault>
-    requires { IfSome found (λ i. from + i < 2 ^ 64) }
-    ensures { located result ≡ replied (or_next cause (option_map (λ i. from + i) found) None) }
+// Whether no place is left for a group, or no place in it for so many options.
+// Clauses have a `too_many`, searches for it and a `room_for` of their own: the limits are this kind's own, and one function with the limits as parameters would be no shorter than the test.
+pub(crate) fn too_many(place: usize, options: usize) -> bool
+    ensures { result ≡ too_many_of place options }
 {
-    match found {
-        Some(place) => Err(TableFault {
-            cause,
-            item: from + place,
-        }),
-        None => Ok(()),
-    }
+    place >= 64 || options > 32
 }
 
-// The same, where `has` says which groups have the cause.
-fn none_has<T, F: FnMut(&T) -> bool>(
-    cause: TableCause,
-    from: usize,
-    groups: &[T],
-    has: F,
-) -> Result<(), TableFault>
-    requires callable { (state : F) (x : _) → F.pre state x }
-    requires fits { from + length groups.now < 2 ^ 64 }
-    ensures { (test : T → Bool) → ActsAsAt F.FnMut has test → located result ≡ replied (or_next cause (position_from test from groups.now) None) }
+// Whether the bounds are out of order, or past the number of options.
+pub(crate) fn bounds_fail(group: &GroupText<'_>) -> bool
+    ensures { result ≡ bounds_bad (told group.now) }
 {
-    none_found(cause, from, groups.iter().position(has))
+    !(group.lo <= group.hi && group.hi as usize <= group.options.len())
 }
 
-// What groups can have wrong by themselves; their places are counted from `from`.
-pub(crate) fn check_each(
-    width: usize,
-    from: usize,
-    groups: &[GroupText<'_>],
-) -> Result<(), TableFault>
-    requires { from + length groups.now < 2 ^ 64 }
-    ensures { located result ≡ replied (first_cause width misfits from (map told groups.now)) }
+// The first group that has no place.
+fn first_too_many(groups: &[GroupText<'_>]) -> Option<usize>
+    ensures { result ≡ position (λ (x : ℕ × GroupText). too_many_of x.0 (length x.1.options.now)) (enumerate_from 0 groups.now) }
 {
-    none_has(TableCause::OptionTooLarge, from, groups, |g| {
-        !within(g.options, width)
-    })?;
-    none_has(TableCause::GroupBounds, from, groups, |g| {
-        !(g.lo <= g.hi && g.hi as usize <= g.options.len())
-    })?;
-    none_has(TableCause::OptionTwice, from, groups, |g| {
-        !all_different(g.options)
-    })
-}
-
-// What the groups of a whole table can have wrong.
-pub(crate) fn check_all(width: usize, groups: &[GroupText<'_>]) -> Result<(), TableFault>
-    ensures { located result ≡ replied (first_cause width causes 0 (map told groups.now)) }
-{
-    let crowded = groups
+    groups
         .iter()
         .enumerate()
-        .position(|(i, g)| i >= 64 || g.options.len() > 32);
-    none_found(TableCause::TooMany, 0, crowded)?;
-    check_each(width, 0, groups)
+        .position(|(i, g)| too_many(i, g.options.len()))
+}
+
+// The first group with an option at or above the width.
+fn first_outside(width: usize, groups: &[GroupText<'_>]) -> Option<usize>
+    ensures { result ≡ position (λ g. option_bad width (told g)) groups.now }
+{
+    groups.iter().position(|g| !within(g.options, width))
+}
+
+// The first group whose bounds fail.
+fn first_unbounded(groups: &[GroupText<'_>]) -> Option<usize>
+    ensures { result ≡ position (λ g. bounds_bad (told g)) groups.now }
+{
+    groups.iter().position(bounds_fail)
+}
+
+// The first group in which an option stands twice.
+fn first_twice(groups: &[GroupText<'_>]) -> Option<usize>
+    ensures { result ≡ position (λ g. twice_bad (told g)) groups.now }
+{
+    groups.iter().position(|g| !all_different(g.options))
+}
+
+// Refuses a whole table: each cause is looked for in all groups before the next cause.
+#[tactic(auto, using(crate::proofs::Places::open_found), unfolding(bank::specs::Checks::and_then))]
+pub(crate) fn check_groups(width: usize, groups: &[GroupText<'_>]) -> Result<(), TableFault>
+    ensures { located result ≡ open_cause width (map told groups.now) }
+{
+    check_width(width)?;
+    refused_at(TableCause::TooMany, first_too_many(groups))?;
+    refused_at(TableCause::OptionTooLarge, first_outside(width, groups))?;
+    refused_at(TableCause::GroupBounds, first_unbounded(groups))?;
+    refused_at(TableCause::OptionTwice, first_twice(groups))
 }

@@ -1,12 +1,13 @@
 // The marks of one group: how many of its options are taken and can be taken decides everything.
-ghost use Rattle.std.specs.Prelude.{◌≡◌, ℕ, ◌<◌, ◌≤◌, true, length};
+ghost use Rattle.std.specs.Prelude.{◌≡◌, ℕ, ◌<◌, ◌≤◌, true, length, ◌==◌, slice_index};
+ghost use Rattle.std.specs.List.{All, count_by};
 ghost use Rattle.builds.specs.Values.{up_to};
 ghost use Rattle.builds.specs.Answers.{answer_of};
 ghost use Rattle.bank.specs.Marking.{heard, noted};
 ghost use Rattle.option_set.specs.Sets.{member};
 ghost use Rattle.groups.specs.Group.{rule_meets, among, all_below};
 ghost use Rattle.groups.specs.Table.{rule_of};
-ghost use Rattle.groups.specs.Tally.{holding as holding_of, settled};
+ghost use Rattle.groups.specs.Tally.{settled};
 
 use crate::group::Group;
 use bank::refusal::Answer;
@@ -14,8 +15,8 @@ use option_set::OptionSet;
 
 // How many of the options have the value.
 pub(crate) fn holding(options: &[u8], values: &[u8], value: u8) -> usize
-    requires { all_below (length values.now) options.now ≡ true }
-    ensures value { result ≡ holding_of value options.now values.now }
+    requires { All (λ o. o < length values.now) options.now }
+    ensures value { result ≡ count_by (λ o. slice_index values.now o == value) options.now }
     ensures bound { result ≤ length options.now }
 {
     options
@@ -45,6 +46,7 @@ impl Group {
     }
 
     // Marks the group. `values` and `marks` are the options' places, no more and no less.
+    #[tactic(auto, using(crate::proofs::Marked::marked))]
     pub(crate) fn mark(&self, values: &[u8], marks: &mut [u8]) -> Answer
         requires inside { all_below (length values.now) self.now.options.items ≡ true }
         requires room { length marks.old ≡ length values.now }

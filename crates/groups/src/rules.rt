@@ -27,10 +27,9 @@ impl RuleBank for Groups {
     }
 
     fn reads(&self, rule: usize) -> OptionSet {
-        match self.groups.get(rule) {
-            Some(group) => group.reads(),
-            None => OptionSet::empty(),
-        }
+        self.groups
+            .get(rule)
+            .map_or(OptionSet::empty(), |group| group.reads())
     }
 
     fn mark(&self, rule: usize, values: &[u8], marks: &mut [u8]) -> Result<Answer, Refusal> {

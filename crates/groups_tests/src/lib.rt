@@ -3,16 +3,12 @@
 
 #[cfg(test)]
 mod tests {
+    use bank::check::refused_at;
     use bank::refusal::{Answer, Refusal};
     use bank::rule_bank::RuleBank;
-    use bank::table_fault::TableFault;
+    use bank::table_fault::TableCause;
     use groups::table::Groups;
     use groups::text::GroupText;
-
-    // Whether a table was refused for this cause at this item.
-    fn refuses(opened: Result<(), TableFault>, number: u8, item: usize) -> bool {
-        opened.is_err_and(|fault| fault.cause.number() == number && fault.item == item)
-    }
 
     fn group(lo: u32, hi: u32, options: &[u32]) -> GroupText<'_> {
         GroupText { lo, hi, options }
@@ -22,33 +18,41 @@ mod tests {
     fn widths_and_options(rt: HostRuntime) {
         let mut bank = Groups::empty();
         assert!(rt; bank.width() == 1 && bank.count() == 0);
-        assert!(rt; refuses(bank.open(0, &[]), 11, 0));
-        assert!(rt; refuses(bank.open(129, &[]), 11, 0));
+        assert!(rt; bank.open(0, &[]) == refused_at(TableCause::BadWidth, Some(0)));
+        assert!(rt; bank.open(129, &[]) == refused_at(TableCause::BadWidth, Some(0)));
         assert!(rt;
-            refuses(
-                bank.open(128, &[group(0, 1, &[127]), group(0, 1, &[128])]),
-                15,
-                1,
-            )
+            bank.open(128, &[group(0, 1, &[127]), group(0, 1, &[128])])
+                == refused_at(TableCause::OptionTooLarge, Some(1))
         );
         assert!(rt; bank.width() == 1 && bank.count() == 0);
         assert!(rt; bank.open(128, &[group(0, 1, &[127])]).is_ok());
         assert!(rt; bank.width() == 128 && bank.count() == 1);
-        assert!(rt; refuses(bank.add(&group(0, 1, &[128])), 15, 1));
+        assert!(rt;
+            bank.add(&group(0, 1, &[128])) == refused_at(TableCause::OptionTooLarge, Some(1))
+        );
         assert!(rt; bank.add(&group(0, 2, &[0, 127])).is_ok());
         assert!(rt; bank.width() == 128 && bank.count() == 2);
+    }
+
+    #[test]
+    fn numbers_of_causes(rt: HostRuntime) {
+        assert_eq!(rt; TableCause::BadWidth.number(), 11);
+        assert_eq!(rt; TableCause::TooMany.number(), 12);
+        assert_eq!(rt; TableCause::OptionTooLarge.number(), 15);
+        assert_eq!(rt; TableCause::GroupBounds.number(), 17);
+        assert_eq!(rt; TableCause::OptionTwice.number(), 18);
     }
 
     #[test]
     fn too_many_groups(rt: HostRuntime) {
         let mut bank = Groups::empty();
         let one = group(0, 1, &[0]);
-        assert!(rt; refuses(bank.open(1, &[one; 65]), 12, 64));
+        assert!(rt; bank.open(1, &[one; 65]) == refused_at(TableCause::TooMany, Some(64)));
         assert!(rt; bank.count() == 0);
         assert!(rt; bank.open(1, &[one; 64]).is_ok());
         assert!(rt; bank.count() == 64);
-        assert!(rt; refuses(bank.room_for(0), 12, 64));
-        assert!(rt; refuses(bank.add(&group(0, 1, &[0])), 12, 64));
+        assert!(rt; bank.room_for(0) == refused_at(TableCause::TooMany, Some(64)));
+        assert!(rt; bank.add(&group(0, 1, &[0])) == refused_at(TableCause::TooMany, Some(64)));
         assert!(rt; bank.count() == 64);
     }
 
@@ -62,31 +66,29 @@ mod tests {
         let longer: &[u32] = &[0; 33];
         assert!(rt; bank.open(32, &[group(32, 32, longest)]).is_ok());
         assert!(rt; bank.add(&group(0, 0, longest)).is_ok());
-        assert!(rt; refuses(bank.add(&group(0, 1, longer)), 12, 2));
+        assert!(rt; bank.add(&group(0, 1, longer)) == refused_at(TableCause::TooMany, Some(2)));
         assert!(rt;
-            refuses(
-                bank.open(32, &[group(1, 0, &[40]), group(0, 1, longer)]),
-                12,
-                1,
-            )
+            bank.open(32, &[group(1, 0, &[40]), group(0, 1, longer)])
+                == refused_at(TableCause::TooMany, Some(1))
         );
         assert!(rt; bank.room_for(32).is_ok());
-        assert!(rt; refuses(bank.room_for(33), 12, 2));
+        assert!(rt; bank.room_for(33) == refused_at(TableCause::TooMany, Some(2)));
     }
 
     #[test]
     fn bounds(rt: HostRuntime) {
         let mut bank = Groups::empty();
         assert!(rt; bank.open(3, &[group(0, 0, &[]), group(1, 1, &[2])]).is_ok());
-        assert!(rt; refuses(bank.add(&group(2, 1, &[0, 1, 2])), 17, 2));
-        assert!(rt; refuses(bank.add(&group(0, 3, &[0, 1])), 17, 2));
-        assert!(rt; refuses(bank.add(&group(0, 1, &[])), 17, 2));
         assert!(rt;
-            refuses(
-                bank.open(3, &[group(0, 0, &[]), group(0, 4294967295, &[0])]),
-                17,
-                1,
-            )
+            bank.add(&group(2, 1, &[0, 1, 2])) == refused_at(TableCause::GroupBounds, Some(2))
+        );
+        assert!(rt;
+            bank.add(&group(0, 3, &[0, 1])) == refused_at(TableCause::GroupBounds, Some(2))
+        );
+        assert!(rt; bank.add(&group(0, 1, &[])) == refused_at(TableCause::GroupBounds, Some(2)));
+        assert!(rt;
+            bank.open(3, &[group(0, 0, &[]), group(0, 4294967295, &[0])])
+                == refused_at(TableCause::GroupBounds, Some(1))
         );
         assert!(rt; bank.count() == 2);
     }
@@ -95,28 +97,21 @@ mod tests {
     fn options_twice(rt: HostRuntime) {
         let mut bank = Groups::empty();
         assert!(rt;
-            refuses(
-                bank.open(3, &[group(0, 1, &[0, 1]), group(0, 1, &[2, 0, 2])]),
-                18,
-                1,
-            )
+            bank.open(3, &[group(0, 1, &[0, 1]), group(0, 1, &[2, 0, 2])])
+                == refused_at(TableCause::OptionTwice, Some(1))
         );
         assert!(rt;
-            refuses(
-                bank.open(3, &[group(0, 1, &[0, 0]), group(2, 1, &[1, 2])]),
-                17,
-                1,
-            )
+            bank.open(3, &[group(0, 1, &[0, 0]), group(2, 1, &[1, 2])])
+                == refused_at(TableCause::GroupBounds, Some(1))
         );
         assert!(rt;
-            refuses(
-                bank.open(3, &[group(2, 1, &[1, 2]), group(0, 1, &[3])]),
-                15,
-                1,
-            )
+            bank.open(3, &[group(2, 1, &[1, 2]), group(0, 1, &[3])])
+                == refused_at(TableCause::OptionTooLarge, Some(1))
         );
         assert!(rt; bank.open(3, &[]).is_ok());
-        assert!(rt; refuses(bank.add(&group(0, 1, &[1, 2, 1])), 18, 0));
+        assert!(rt;
+            bank.add(&group(0, 1, &[1, 2, 1])) == refused_at(TableCause::OptionTwice, Some(0))
+        );
     }
 
     #[test]
@@ -134,18 +129,14 @@ mod tests {
             .is_ok()
         );
         let mut place = [7u8; 5];
-        assert!(rt; matches!(bank.mark(0, &[0, 2, 2, 2], &mut place), Ok(Answer::Live)));
-        assert!(rt;
-            place[0] == 0 && place[1] == 1 && place[2] == 1 && place[3] == 2 && place[4] == 7
-        );
-        assert!(rt; matches!(bank.mark(0, &[1, 1, 2, 2], &mut place), Ok(Answer::Live)));
-        assert!(rt;
-            place[0] == 1 && place[1] == 1 && place[2] == 0 && place[3] == 2 && place[4] == 7
-        );
-        assert!(rt; matches!(bank.mark(1, &[2, 2, 2, 1], &mut place), Ok(Answer::Live)));
-        assert!(rt; place[0] == 2 && place[1] == 0 && place[2] == 2 && place[3] == 1);
-        assert!(rt; matches!(bank.mark(2, &[2, 2, 2, 2, 9], &mut place), Ok(Answer::Live)));
-        assert!(rt; place[0] == 2 && place[1] == 2 && place[2] == 2 && place[3] == 2);
+        assert!(rt; bank.mark(0, &[0, 2, 2, 2], &mut place) == Ok(Answer::Live));
+        assert!(rt; place == [0, 1, 1, 2, 7]);
+        assert!(rt; bank.mark(0, &[1, 1, 2, 2], &mut place) == Ok(Answer::Live));
+        assert!(rt; place == [1, 1, 0, 2, 7]);
+        assert!(rt; bank.mark(1, &[2, 2, 2, 1], &mut place) == Ok(Answer::Live));
+        assert!(rt; place == [2, 0, 2, 1, 7]);
+        assert!(rt; bank.mark(2, &[2, 2, 2, 2, 9], &mut place) == Ok(Answer::Live));
+        assert!(rt; place == [2, 2, 2, 2, 7]);
         let read = bank.reads(1);
         assert!(rt;
             read.contains(1) && read.contains(3) && !read.contains(0) && bank.reads(3).is_empty()
@@ -157,17 +148,12 @@ mod tests {
         let mut bank = Groups::empty();
         assert!(rt; bank.open(2, &[group(1, 1, &[0, 1])]).is_ok());
         let mut place = [7u8; 2];
-        assert!(rt; matches!(bank.mark(1, &[2, 2], &mut place), Err(Refusal::NoSuchRule)));
-        assert!(rt; matches!(bank.mark(0, &[2], &mut place), Err(Refusal::ShortPlace)));
-        assert!(rt;
-            matches!(
-                bank.mark(0, &[2, 2], &mut place[0..1]),
-                Err(Refusal::ShortPlace)
-            )
-        );
-        assert!(rt; matches!(bank.mark(0, &[2, 3], &mut place), Err(Refusal::BadValue)));
-        assert!(rt; matches!(bank.mark(0, &[1, 1], &mut place), Ok(Answer::Dead)));
-        assert!(rt; matches!(bank.mark(0, &[0, 0], &mut place), Ok(Answer::Dead)));
-        assert!(rt; place[0] == 7 && place[1] == 7);
+        assert!(rt; bank.mark(1, &[2, 2], &mut place) == Err(Refusal::NoSuchRule));
+        assert!(rt; bank.mark(0, &[2], &mut place) == Err(Refusal::ShortPlace));
+        assert!(rt; bank.mark(0, &[2, 2], &mut place[0..1]) == Err(Refusal::ShortPlace));
+        assert!(rt; bank.mark(0, &[2, 3], &mut place) == Err(Refusal::BadValue));
+        assert!(rt; bank.mark(0, &[1, 1], &mut place) == Ok(Answer::Dead));
+        assert!(rt; bank.mark(0, &[0, 0], &mut place) == Ok(Answer::Dead));
+        assert!(rt; place == [7, 7]);
     }
 }

@@ -1,6 +1,5 @@
 pub mod Placed
 pub mod Parted
 pub mod Embedded
-pub mod Eithers
 pub mod Paired
 pub mod Shifted

@@ -1,13 +1,12 @@
 -- A shifted bank keeps its duties, and its exactness.
-use Rattle.std.proofs.Common.{ℕ, ◌+◌, Bool, take, drop, ap, ◌∙◌, arith, length-drop, length-take}
+use Rattle.std.proofs.Common.{ℕ, ◌+◌, Bool, arith}
 use Rattle.bank.specs.Banks.{Bank, Duties}
 use Rattle.bank.specs.Reading.{Local}
-use Rattle.bank.proofs.Honesty.{live_long}
-use Rattle.layer_theory.specs.Layers.{placed, shift_at, shift_bank, shift_reading}
+use Rattle.layer_theory.specs.Layers.{shift_at, shift_bank, shift_reading}
 use Rattle.layer_theory.specs.Laws.{ShiftExactLaw}
-use Rattle.layer_theory.proofs.Placed.{up_to_part, part_honest}
+use Rattle.layer_theory.proofs.Placed.{part_honest}
 use Rattle.layer_theory.proofs.Parted.{part_apart}
-use Rattle.layer_theory.proofs.Embedded.{part_exact}
+use Rattle.layer_theory.proofs.Embedded.{placed_exact}
 
 module _ (by : ℕ) {B : Bank} (d : Duties B) where
   pub shift_duties : Duties (shift_bank by B)
@@ -15,24 +14,11 @@ module _ (by : ℕ) {B : Bank} (d : Duties B) where
     wide = omega (arith, d.wide);
     narrow = omega (arith, d.narrow);
     few = d.few;
-    honest = λ r v k l u.
-        let n = B.width in
-        let at = shift_at by B in
-        part_honest at n (at + n) v (omega arith) l (B.meets r) u (B.says r) (d.honest r (take n (drop at v)) k (simp (length-take, length-drop) (omega arith)) (up_to_part 2 at n v (omega arith) u));
+    honest = λ r v k l u. part_honest d r k (shift_at by B) (shift_at by B + B.width) v (omega arith) l u;
   }
 
   pub shift_local : {reading : ℕ → ℕ → Bool} → Local B reading → Local (shift_bank by B) (shift_reading by B reading)
-  shift_local {reading} t = record {
-    apart = λ r o k i e.
-        let n = B.width in
-        let at = shift_at by B in
-        part_apart at n (at + n) (omega arith) (B.meets r) (B.says r) (λ v m l u q. live_long n (B.meets r) v m (B.says r v) (d.honest r v k l u) q)
-        (reading r) (λ j h q. t.apart r j k h q) o e;
-  }
+  shift_local t = record { apart = λ r o k i e. part_apart d r k (shift_at by B) (shift_at by B + B.width) (omega arith) o i t e }
 
 pub shift_exact : ShiftExactLaw
-shift_exact by B e r v k l u =
-    let n = B.width in
-    let at = shift_at by B in
-    ap (placed at v) (e r (take n (drop at v)) k (simp (length-take, length-drop) (omega arith)) (up_to_part 2 at n v (omega arith) u))
-    ∙ part_exact at n (at + n) (omega arith) (B.meets r) v l u
+shift_exact by B e r v k l u = placed_exact B e r k (shift_at by B) (shift_at by B + B.width) (omega arith) v l u

@@ -19,6 +19,7 @@ pub struct Pair<A, B> {
 
 impl<A, B> Pair<A, B> {
     // The two banks as one. Where both mark everything that the definition marks, so does the pair.
+    #[tactic(auto, using(layer_theory::proofs::Placed::placed_law, layer_theory::proofs::Paired::pair_exact))]
     pub fn new(first: A, second: B) -> Pair<A, B>
         ensures parts { (result.first ≡ first) × (result.second ≡ second) }
         ensures placed { PlacedLaw }
@@ -46,6 +47,7 @@ impl<A: RuleBank, B: RuleBank> RuleBank for Pair<A, B> {
     }
 
     // Two branches, since the two banks are of two types.
+    #[tactic(auto, unfolding(layer_theory::specs::Layers::pair_reading))]
     fn reads(&self, rule: usize) -> OptionSet {
         let n = self.first.count();
         if rule < n {
@@ -56,6 +58,7 @@ impl<A: RuleBank, B: RuleBank> RuleBank for Pair<A, B> {
     }
 
     // What is refused is decided by the pair's own width, also where the bank that has the rule is narrower.
+    #[tactic(auto, unfolding(layer_theory::specs::Layers::pair_says))]
     fn mark(&self, rule: usize, values: &[u8], marks: &mut [u8]) -> Result<Answer, Refusal> {
         let w = self.width();
         check_asked(w, self.count(), rule, values, marks.len())?;

@@ -11,6 +11,7 @@ use bank::rule_bank::RuleBank;
 use option_set::OptionSet;
 
 // Marks the places `from` to `to` with their values.
+#[tactic(auto, using(std::proofs::lemmas::Slice::overwrites))]
 fn copy_part(marks: &mut [u8], values: &[u8], from: usize, to: usize)
     requires { (from ≤ to) × ((to ≤ length marks.old) × (to ≤ length values.now)) }
     ensures { marks.new ≡ take from marks.old ++ (take (to - from) (drop from values.now) ++ drop to marks.old) }
@@ -64,6 +65,7 @@ impl<'b, B: RuleBank> Part<'b, B> {
                 Answer::Live
             }
             Ok(Answer::Dead) => Answer::Dead,
+            // a bank that was asked rightly does not refuse; one function for this, search and session would be public in bank with a `requires`, and no public call has one
             Err(_) => unreachable(),
         }
     }

@@ -19,6 +19,7 @@ pub struct Shift<B> {
 
 impl<B> Shift<B> {
     // The bank moved up by `by` options. Where it marks everything that the definition marks, so does the shift.
+    #[tactic(auto, using(layer_theory::proofs::Placed::placed_law, layer_theory::proofs::Shifted::shift_exact))]
     pub fn new(bank: B, by: usize) -> Shift<B>
         ensures parts { (result.bank ≡ bank) × (result.by ≡ by) }
         ensures placed { PlacedLaw }

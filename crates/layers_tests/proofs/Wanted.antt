@@ -1,6 +1,6 @@
 -- What a rule of the small bank says: dead where its option is left out, else live with the option marked taken.
 use Rattle.std.proofs.Common.{◌≡◌, ℕ, ◌-◌, ◌<◌, ◌≤◌, Bool, true, false, List, ◌++◌, length, get_or, take, drop, set, sym, ap, ◌∙◌, inl, inr, arith}
-use Rattle.std.proofs.lemmas.List.{length-set, get_or-set_same, get_or-set_other, set-get_or, set-append_left, length-take-le}
+use Rattle.std.proofs.lemmas.List.{length-set, get_or-set_same, get_or-set_other, set-get_or, places, same_lists}
 use Rattle.std.proofs.lemmas.Bool.{cases_eq}
 use Rattle.builds.specs.Builds.{Build, bit}
 use Rattle.builds.specs.Values.{bits, up_to, fits}
@@ -42,7 +42,4 @@ module _ (w o : ℕ) (inside : o < w) (v : List ℕ) (long : length v ≡ w) whe
 -- the place then: the table's values, the option taken, and what stood behind them; `w - 0` is how a part `[0..w]` is read
 pub wanted_place : (w o : ℕ) (values old copied : List ℕ) → o < w → w ≤ length values → copied ≡ take (w - 0) values →
     set (copied ++ drop (w - 0) old) o 1 ≡ noted (live (set (take w values) o 1)) old
-wanted_place w o values old copied h l e =
-    let z : w - 0 ≡ w = omega arith in
-    let n : length (take w values) ≡ w = length-take-le w values l in
-    rw (e, z, length-set (take w values) o 1, n) (set-append_left (take w values) (drop w old) o 1 (rw n h))
+wanted_place w o values old copied h l e = rw e (same_lists _ _ (grind (arith, places, length-set)) (λ k d j. grind (arith, places, length-set, get_or-set_same)))

@@ -5,27 +5,11 @@ use bank::rule_bank::RuleBank;
 use layers::pair::Pair;
 use layers::shift::Shift;
 
-fn is_live(reply: Result<Answer, Refusal>) -> bool {
-    matches!(reply, Ok(Answer::Live))
-}
-
-fn is_dead(reply: Result<Answer, Refusal>) -> bool {
-    matches!(reply, Ok(Answer::Dead))
-}
-
-// The number of the refusal, or 0; a number, since what a test expects is what dealers know.
-fn number_of(reply: Result<Answer, Refusal>) -> u8 {
-    match reply {
-        Ok(_) => 0,
-        Err(cause) => cause.number(),
-    }
-}
-
 // Whether the rule, with every option open, marks this one taken, leaves its neighbours open and reads it alone among them.
 fn wants_only<B: RuleBank>(b: &B, rule: usize, option: usize) -> bool {
     let values = [2u8; 128];
     let mut marks = [9u8; 130];
-    if !is_live(b.mark(rule, &values, &mut marks)) || option >= 128 {
+    if b.mark(rule, &values, &mut marks) != Ok(Answer::Live) || option >= 128 {
         return false;
     }
     let reads = b.reads(rule);
@@ -41,11 +25,11 @@ fn a_pair_numbers_on(rt: HostRuntime) {
     assert_eq!(rt; pair.count(), 7);
     let values = [2, 2, 0, 1, 2, 7];
     let mut marks = [9u8; 6];
-    assert!(rt; is_live(pair.mark(1, &values, &mut marks)));
+    assert!(rt; pair.mark(1, &values, &mut marks) == Ok(Answer::Live));
     assert!(rt; marks == [2, 1, 0, 1, 2, 9]);
-    assert!(rt; is_live(pair.mark(3, &values, &mut marks)));
+    assert!(rt; pair.mark(3, &values, &mut marks) == Ok(Answer::Live));
     assert!(rt; marks == [1, 2, 0, 1, 2, 9]);
-    assert!(rt; is_dead(pair.mark(5, &values, &mut marks)));
+    assert!(rt; pair.mark(5, &values, &mut marks) == Ok(Answer::Dead));
     assert!(rt; marks == [1, 2, 0, 1, 2, 9]);
     assert!(rt; wants_only(&pair, 2, 0));
     assert!(rt; wants_only(&pair, 6, 3));
@@ -58,13 +42,13 @@ fn a_pair_leaves_off_rules_past_the_last(rt: HostRuntime) {
     assert!(rt; wants_only(&full, 1022, 2));
     assert!(rt; wants_only(&full, 1023, 0));
     let mut marks = [9u8; 3];
-    assert_eq!(rt; number_of(full.mark(1024, &[2, 2, 2], &mut marks)), 7);
+    assert!(rt; full.mark(1024, &[2, 2, 2], &mut marks) == Err(Refusal::NoSuchRule));
     assert!(rt; marks == [9, 9, 9]);
     let cut = Pair::new(Wants::new(3, 1020), Wants::new(4, 10));
     assert_eq!(rt; cut.count(), 1024);
     assert!(rt; wants_only(&cut, 1020, 0));
     assert!(rt; wants_only(&cut, 1023, 3));
-    assert_eq!(rt; number_of(cut.mark(1024, &[2, 2, 2, 2], &mut [9u8; 4])), 7);
+    assert!(rt; cut.mark(1024, &[2, 2, 2, 2], &mut [9u8; 4]) == Err(Refusal::NoSuchRule));
 }
 
 #[test]
@@ -73,9 +57,9 @@ fn a_shift_moves_up(rt: HostRuntime) {
     assert_eq!(rt; shift.width(), 5);
     assert_eq!(rt; shift.count(), 3);
     let mut marks = [9u8; 6];
-    assert!(rt; is_live(shift.mark(1, &[2, 0, 2, 2, 1, 7], &mut marks)));
+    assert!(rt; shift.mark(1, &[2, 0, 2, 2, 1, 7], &mut marks) == Ok(Answer::Live));
     assert!(rt; marks == [2, 0, 2, 1, 1, 9]);
-    assert!(rt; is_dead(shift.mark(1, &[1, 2, 2, 0, 2], &mut marks)));
+    assert!(rt; shift.mark(1, &[1, 2, 2, 0, 2], &mut marks) == Ok(Answer::Dead));
     assert!(rt; marks == [2, 0, 2, 1, 1, 9]);
     assert!(rt; wants_only(&shift, 0, 2));
     assert!(rt; wants_only(&shift, 2, 4));
@@ -119,14 +103,14 @@ fn layers_nest(rt: HostRuntime) {
 fn a_pair_refuses_by_its_own_width(rt: HostRuntime) {
     let pair = Pair::new(Wants::new(2, 3), Wants::new(5, 4));
     let mut marks = [9u8; 4];
-    assert_eq!(rt; number_of(pair.mark(7, &[3, 3], &mut marks)), 7);
-    assert_eq!(rt; number_of(pair.mark(0, &[3, 2, 2, 2, 2], &mut marks)), 8);
+    assert!(rt; pair.mark(7, &[3, 3], &mut marks) == Err(Refusal::NoSuchRule));
+    assert!(rt; pair.mark(0, &[3, 2, 2, 2, 2], &mut marks) == Err(Refusal::ShortPlace));
     assert!(rt; marks == [9, 9, 9, 9]);
     let mut wide = [9u8; 5];
-    assert_eq!(rt; number_of(pair.mark(0, &[2, 2, 2, 2], &mut wide)), 8);
-    assert_eq!(rt; number_of(pair.mark(0, &[2, 2, 2, 2, 3], &mut wide)), 9);
+    assert!(rt; pair.mark(0, &[2, 2, 2, 2], &mut wide) == Err(Refusal::ShortPlace));
+    assert!(rt; pair.mark(0, &[2, 2, 2, 2, 3], &mut wide) == Err(Refusal::BadValue));
     assert!(rt; wide == [9, 9, 9, 9, 9]);
-    assert_eq!(rt; number_of(pair.mark(0, &[2, 2, 2, 2, 2, 3], &mut wide)), 0);
+    assert!(rt; pair.mark(0, &[2, 2, 2, 2, 2, 3], &mut wide) == Ok(Answer::Live));
     assert!(rt; wide == [1, 2, 2, 2, 2]);
 }
 
@@ -134,13 +118,20 @@ fn a_pair_refuses_by_its_own_width(rt: HostRuntime) {
 fn a_shift_refuses_by_its_own_width(rt: HostRuntime) {
     let shift = Shift::new(Wants::new(2, 1), 3);
     let mut marks = [9u8; 4];
-    assert_eq!(rt; number_of(shift.mark(1, &[3, 3], &mut marks)), 7);
-    assert_eq!(rt; number_of(shift.mark(0, &[3, 2, 2, 2, 2], &mut marks)), 8);
+    assert!(rt; shift.mark(1, &[3, 3], &mut marks) == Err(Refusal::NoSuchRule));
+    assert!(rt; shift.mark(0, &[3, 2, 2, 2, 2], &mut marks) == Err(Refusal::ShortPlace));
     assert!(rt; marks == [9, 9, 9, 9]);
     let mut wide = [9u8; 5];
-    assert_eq!(rt; number_of(shift.mark(0, &[2, 2, 2, 2], &mut wide)), 8);
-    assert_eq!(rt; number_of(shift.mark(0, &[3, 2, 2, 2, 2], &mut wide)), 9);
+    assert!(rt; shift.mark(0, &[2, 2, 2, 2], &mut wide) == Err(Refusal::ShortPlace));
+    assert!(rt; shift.mark(0, &[3, 2, 2, 2, 2], &mut wide) == Err(Refusal::BadValue));
     assert!(rt; wide == [9, 9, 9, 9, 9]);
-    assert_eq!(rt; number_of(shift.mark(0, &[0, 1, 2, 2, 2, 3], &mut wide)), 0);
+    assert!(rt; shift.mark(0, &[0, 1, 2, 2, 2, 3], &mut wide) == Ok(Answer::Live));
     assert!(rt; wide == [0, 1, 2, 1, 2]);
+}
+
+#[test]
+fn numbers_of_refusals(rt: HostRuntime) {
+    assert_eq!(rt; Refusal::NoSuchRule.number(), 7);
+    assert_eq!(rt; Refusal::ShortPlace.number(), 8);
+    assert_eq!(rt; Refusal::BadValue.number(), 9);
 }

@@ -1,5 +1,5 @@
 // The lines of a text in turn.
-ghost use Rattle.std.specs.Prelude.{◌≡◌, ℕ, ◌+◌, ◌-◌, ◌<◌, ◌≤◌, ◌==◌, List, [], ◌∷◌, length, drop, take, ◌≢◌, EachIndex, slice_index, MatchOption};
+ghost use Rattle.std.specs.Prelude.{◌≡◌, ℕ, ◌<◌, ◌≤◌, length, ◌≢◌, EachIndex, slice_index, MatchOption};
 ghost use Rattle.lines.specs.Lines.{lines_of, LinesLaw};
 ghost use Rattle.lines.specs.Said.{line_of};
 ghost use Rattle.std.specs.Iterator.{YieldsFirstBy, item_count};
@@ -38,6 +38,7 @@ impl<'a> Iterator for Lines<'a> {
 
     ghost remaining = { item_count (λ s. lines_of s.rest.now) };
 
+    #[tactic(auto, using(crate::proofs::Parts::line_past, crate::proofs::Parts::line_cut, crate::proofs::Parts::line_rest))]
     fn next(&mut self) -> Option<Line<'a>> {
         let text = self.rest;
         if text.is_empty() {

@@ -1,12 +1,14 @@
 // Bytes and fields at a place of the listing.
 // The listing and the place stay two parameters: a writer that borrows the listing would make no call plainer, and each contract longer.
-ghost use Rattle.std.specs.Prelude.{◌≡◌, ℕ, ◌+◌, ◌<◌, ◌≤◌, List, [], ◌∷◌, ◌++◌, length};
+ghost use Rattle.std.specs.Prelude.{◌≡◌, ◌+◌, ◌<◌, ◌≤◌, [], ◌∷◌, length};
 ghost use Rattle.fields.specs.Field.{field_of};
 ghost use Rattle.listing.specs.Places.{put_at};
 ghost use Rattle.listing.specs.Listing.{option_line};
 
+use fields::COLUMNS;
 use fields::write::write_field;
 
+#[tactic(auto, using(crate::proofs::Puts::put_one))]
 pub(crate) fn put_byte(listing: &mut [u8], at: usize, byte: u8)
     requires room { at < length listing.old }
     ensures { listing.new ≡ put_at at (byte ∷ []) listing.old }
@@ -19,7 +21,7 @@ pub(crate) fn put_field(listing: &mut [u8], at: usize, number: u32)
     requires small { number < 1000000 }
     ensures { listing.new ≡ put_at at (field_of number) listing.old }
 {
-    let end = at + 6;
+    let end = at + COLUMNS;
     // six bytes, and six digits at most: never refused
     let _ = write_field(number, &mut listing[at..end]);
 }

@@ -4,15 +4,13 @@ ghost use Rattle.texts.specs.Causes.{fault_of};
 ghost use Rattle.listing.specs.Listing.{value_lines, none_line, spent_line, fault_line, build_fits, fault_fits, written, written_count, BuildLaw};
 
 use crate::columns::{put_byte, put_field, put_option};
+use fields::SEVEN_DIGITS;
 use texts::faults::TextFault;
 
 // The lengths of an option's line and of a fault's.
 const OPTION_LINE: usize = 14;
 
 const FAULT_LINE: usize = 26;
-
-// Numbers below this have six digits at most.
-const SEVEN_DIGITS: usize = 1000000;
 
 // O: one line for each value, with its option.
 pub fn write_build(listing: &mut [u8], values: &[u8]) -> Option<usize>
@@ -65,7 +63,7 @@ pub fn write_fault(listing: &mut [u8], fault: TextFault) -> Option<usize>
     ensures listing { listing.new ≡ written (fault_fits (fault_of fault) listing.old) (fault_line (fault_of fault)) listing.old }
 {
     let line = fault.line_number();
-    if line >= SEVEN_DIGITS || listing.len() < FAULT_LINE {
+    if line >= SEVEN_DIGITS as usize || listing.len() < FAULT_LINE {
         return None;
     }
     put_byte(listing, 0, b'F');

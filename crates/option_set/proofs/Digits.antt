@@ -1,32 +1,23 @@
 -- The laws of `member` and `some_member`: what each operation on a set's number does to its options.
-use Rattle.std.proofs.Common.{◌≡◌, ℕ, zero, suc, ◌+◌, ◌-◌, ◌*◌, ◌/◌, ◌%◌, ◌^◌, ◌<◌, min, max, false, not, ◌&&◌, ◌||◌, eqb, ltb, leb, bit_and, bit_or, sym, refl, ap, ◌∙◌, inl, inr, arith, pow_pos}
+use Rattle.std.proofs.Common.{◌≡◌, ℕ, zero, suc, ◌+◌, ◌-◌, ◌*◌, ◌/◌, ◌%◌, ◌^◌, ◌<◌, min, max, false, not, ◌&&◌, ◌||◌, eqb, ltb, leb, bit_and, bit_or, sym, refl, ap, ◌∙◌, inl, inr, arith, tests, pow_pos}
 use Rattle.std.specs.Int.RustNames.{bit_xor}
 use Rattle.std.proofs.Math.Bool.{or_comm}
 use Rattle.std.proofs.lemmas.Nat.{one_shl, div-add-mod'}
 use Rattle.std.proofs.lemmas.Nat.Bits.{bit_at-zero, shr_and_one, bit_at_and, bit_at_or, bit_at_xor, bit_at-pow_same, bit_at-pow_other, bit_at_ones, bit_at_ones_above, bit_at_cat_low, bit_at_cat_high, bit_at-lt, same_from_bits_below}
-use Rattle.std.proofs.lemmas.Bool.{cases_lt, cases_eq, cases_Bool, eq-eqb, ne_eqb, eqb-false, lt-ltb, le-ltb, le-leb, lt-leb, or_from, or_parts, true≢false}
+use Rattle.std.proofs.lemmas.Bool.{cases_eq, cases_Bool, eq-eqb, ne_eqb, eqb-false, or_from, or_parts, true≢false}
 use Rattle.std.specs.Int.{bit_at}
 use Rattle.option_set.specs.Sets.{member, some_member}
 
 -- single digits
 
-by_two : (P : ℕ → ℕ → Type 0) → P 0 0 → P 0 1 → P 1 0 → P 1 1 → (m n : ℕ) → m < 2 → n < 2 → P m n
-by_two P a b c d zero zero h k = a
-by_two P a b c d zero (suc zero) h k = b
-by_two P a b c d (suc zero) zero h k = c
-by_two P a b c d (suc zero) (suc zero) h k = d
-by_two P a b c d zero (suc (suc n)) h k = absurd (omega arith)
-by_two P a b c d (suc zero) (suc (suc n)) h k = absurd (omega arith)
-by_two P a b c d (suc (suc m)) n h k = absurd (omega arith)
-
 or_two : (m n : ℕ) → m < 2 → n < 2 → eqb (max m n) 1 ≡ (eqb m 1 || eqb n 1)
-or_two = by_two (λ m n. eqb (max m n) 1 ≡ (eqb m 1 || eqb n 1)) refl refl refl refl
+or_two m n h k = grind (arith, tests)
 
 and_two : (m n : ℕ) → m < 2 → n < 2 → eqb (min m n) 1 ≡ (eqb m 1 && eqb n 1)
-and_two = by_two (λ m n. eqb (min m n) 1 ≡ (eqb m 1 && eqb n 1)) refl refl refl refl
+and_two m n h k = grind (arith, tests)
 
 less_two : (m n : ℕ) → m < 2 → n < 2 → eqb ((m + min m n) % 2) 1 ≡ (eqb m 1 && not (eqb n 1))
-less_two = by_two (λ m n. eqb ((m + min m n) % 2) 1 ≡ (eqb m 1 && not (eqb n 1))) refl refl refl refl
+less_two m n h k = grind (arith, tests)
 
 -- the operations
 
@@ -62,17 +53,11 @@ unfolding member
 member_shifted m s w o h =
     let moved = m * 2 ^ s in
     let kept : bit_at (moved % 2 ^ w) o ≡ bit_at (moved + 0) o = sym (bit_at_cat_low (moved / 2 ^ w) w (moved % 2 ^ w) o h) ∙ ap (λ n. bit_at n o) (omega (arith, div-add-mod' moved (2 ^ w))) in
-    elim (cases_lt o s) [
-      | inl lt ↦ ap (λ n. eqb n 1) (kept ∙ bit_at_cat_low m s 0 o lt ∙ bit_at-zero o) ∙ sym (ap (λ b. b && eqb (bit_at m (o - s)) 1) (lt-leb s o lt))
-      | inr le ↦ ap (λ n. eqb n 1) (kept ∙ bit_at_cat_high m s 0 o (pow_pos s) le) ∙ sym (ap (λ b. b && eqb (bit_at m (o - s)) 1) (le-leb s o le))
-    ]
+    grind (arith, tests, kept, bit_at_cat_low m s 0 o, bit_at_cat_high m s 0 o (pow_pos s), bit_at-zero o)
 
 member_one : (o k : ℕ) → member (2 ^ o) k ≡ eqb k o
 unfolding member
-member_one o k = elim (cases_eq k o) [
-  | inl e ↦ ap (λ i. eqb (bit_at (2 ^ o) i) 1) e ∙ ap (λ n. eqb n 1) (bit_at-pow_same o) ∙ sym (eq-eqb k o e)
-  | inr n ↦ ap (λ n. eqb n 1) (bit_at-pow_other o k n) ∙ sym (ne_eqb k o n)
-]
+member_one o k = grind (arith, tests, bit_at-pow_same, bit_at-pow_other o k)
 
 -- `set | (1 << o)` at a width of w digits
 pub member_insert : (m o w k : ℕ) → o < w → member (bit_or m ((1 * 2 ^ o) % 2 ^ w)) k ≡ (eqb k o || member m k)
@@ -82,10 +67,7 @@ member_insert m o w k h =
 -- the options below n, as `(1 << n) - 1`
 pub member_below : (n o : ℕ) → member (2 ^ n - 1) o ≡ ltb o n
 unfolding member
-member_below n o = elim (cases_lt o n) [
-  | inl lt ↦ ap (λ n. eqb n 1) (bit_at_ones n o lt) ∙ sym (lt-ltb o n lt)
-  | inr le ↦ ap (λ n. eqb n 1) (bit_at_ones_above n o le) ∙ sym (le-ltb o n le)
-]
+member_below n o = grind (arith, tests, bit_at_ones n o, bit_at_ones_above n o)
 
 -- some option, and none
 

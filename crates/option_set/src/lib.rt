@@ -32,6 +32,7 @@ pub struct OptionSet {
 
 impl OptionSet {
     // The set without an option.
+    #[tactic(auto, using(crate::proofs::Digits::member_zero))]
     pub fn empty() -> OptionSet
         ensures { (o : ℕ) → member result.members o ≡ false }
     {
@@ -78,6 +79,7 @@ impl OptionSet {
     }
 
     // The options that are in one of the sets.
+    #[tactic(auto, using(crate::proofs::Digits::member_or))]
     pub fn union(self, other: OptionSet) -> OptionSet
         ensures { (o : ℕ) → member result.members o ≡ (member self.members o || member other.members o) }
     {
@@ -87,6 +89,7 @@ impl OptionSet {
     }
 
     // The options that are in both sets.
+    #[tactic(auto, using(crate::proofs::Digits::member_and))]
     pub fn common(self, other: OptionSet) -> OptionSet
         ensures { (o : ℕ) → member result.members o ≡ (member self.members o && member other.members o) }
     {
@@ -96,6 +99,7 @@ impl OptionSet {
     }
 
     // The options of this set that are not in the other.
+    #[tactic(auto, using(crate::proofs::Digits::member_less))]
     pub fn without(self, other: OptionSet) -> OptionSet
         ensures { (o : ℕ) → member result.members o ≡ (member self.members o && not (member other.members o)) }
     {
@@ -117,6 +121,7 @@ impl OptionSet {
     }
 
     // Whether no option is in the set.
+    #[tactic(auto, using(crate::proofs::Digits::empty_test))]
     pub fn is_empty(self) -> bool
         ensures { result ≡ not (some_member 128 self.members) }
     {

@@ -1,12 +1,14 @@
 -- The picks that a text gives are picks of a session.
-use Rattle.std.proofs.Common.{ℕ, Bool, true, false, cond, eqb, leb, List, [], ◌∷◌, get_or, drop, set, Some, None, Ok, Err, Option, Result, refl, arith}
+use Rattle.std.proofs.Common.{ℕ, Bool, true, false, cond, eqb, leb, List, [], get_or, drop, set, Some, None, Ok, Err, Option, Result, ◌≡◌, refl, subst, arith}
 use Rattle.std.proofs.lemmas.Bool.{cond_both, leb-false}
 use Rattle.lines.specs.Lines.{Line, lines_of}
 use Rattle.texts.specs.Faults.{Layered, line_fault, session_fault}
 use Rattle.texts.specs.Fields.{fields, whole_line, with_fields, plain_line}
 use Rattle.search_theory.specs.Orders.{unpicked}
 use Rattle.search_theory.specs.Runs.{no_picks}
-use Rattle.pick_text.specs.PickLines.{picked, read_pick, kept_by, read_until, picks_until}
+use Rattle.texts.specs.Reading.{read_lines}
+use Rattle.texts.proofs.Reading.{lines_keep}
+use Rattle.pick_text.specs.PickLines.{picked, read_pick}
 use Rattle.search_theory.specs.Trails.{unset, Point}
 use Rattle.search_theory.specs.Calls.{State}
 use Rattle.search_theory.specs.Held.{PicksOk}
@@ -44,15 +46,6 @@ module _ (B : Bank) where
       cond_both (eqb (get_or l.bytes 0 0) 80) (plain_line 2 l (λ fs. picked B.width ps (get_or fs 0 0) (get_or fs 1 0))) (Err (line_fault 21)) OkIf
       (λ _. whole (whole_line 2 l) (fields 2 (drop 1 l.bytes)) _ (λ fs. picked_ok ps (get_or fs 0 0) (get_or fs 1 0) h)) (λ _. tt)
 
-  kept_ok : (ps : List ℕ) (r : Result (List ℕ) Layered) (go : List ℕ → List ℕ) → PicksOk B ps → OkIf r → ((qs : List ℕ) → PicksOk B qs → PicksOk B (go qs)) → PicksOk B (kept_by ps r go)
-  kept_ok ps (Ok qs) go h k g = g qs k
-  kept_ok ps (Err f) go h k g = h
-
-  until_ok : (ps : List ℕ) (ls : List Line) → PicksOk B ps → PicksOk B (read_until B.width ps ls)
-  unfolding read_until
-  until_ok ps [] h = h
-  until_ok ps (l ∷ ls) h = kept_ok ps (read_pick B.width ps l) (λ qs. read_until B.width qs ls) h (line_ok ps l h) (λ qs k. until_ok qs ls k)
-
-  -- the picks of a text, up to its end or its first fault
-  pub picks_ok : (text : List ℕ) → PicksOk B (picks_until B.width text)
-  picks_ok text = until_ok no_picks (lines_of text) (none_ok B)
+  -- the picks of a text that is read
+  pub picks_ok : (picks ps : List ℕ) → read_lines 2 (read_pick B.width) 1 no_picks (lines_of picks) ≡ Ok ps → PicksOk B ps
+  picks_ok picks ps e = lines_keep 2 (read_pick B.width) (PicksOk B) (λ qs l rs h r. subst OkIf r (line_ok qs l h)) 1 no_picks (lines_of picks) ps (none_ok B) e

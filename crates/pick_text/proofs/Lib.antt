@@ -1,2 +1,1 @@
 pub mod Picking
-pub mod Reading

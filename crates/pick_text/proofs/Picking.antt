@@ -1,5 +1,5 @@
 -- A pick that is not refused.
-use Rattle.std.proofs.Common.{◌≡◌, ℕ, ◌<◌, Bool, true, false, eqb, is_some, List, map, get_or, set, Some, None, Ok, Option, sym, ap, ◌∙◌}
+use Rattle.std.proofs.Common.{◌≡◌, ℕ, ◌<◌, Bool, false, eqb, is_some, List, map, get_or, set, Some, None, Ok, Option, sym, ap, ◌∙◌}
 use Rattle.std.proofs.lemmas.Bool.{cond-true, cond-false, lt-leb}
 use Rattle.search_theory.specs.Values.{value_number}
 use Rattle.search_theory.proofs.Values.{unpicked_some, set_bit}

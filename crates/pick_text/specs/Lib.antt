@@ -1,3 +1,3 @@
 pub mod PickLines
-pub mod Tables
+pub mod Said
 pub mod Orders

@@ -2,4 +2,5 @@
 #![tactic(auto)]
 
 mod pick_line;
-pub mod picks_text;
+pub mod picks;
+mod picks_text;

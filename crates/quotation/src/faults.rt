@@ -1,26 +1,27 @@
 // Says on standard error what is wrong with an order: the fault in words, and the line that has it.
-use quote::faulty::{faulty_line, first_fault};
+use quote::request::Request;
+use std::fmt;
 use std::io::Write;
 use texts::faults::{Text, TextFault};
 
-fn file_name(text: Option<Text>) -> &'static str {
-    match text {
-        None => "the call",
-        Some(Text::Rules) => "rules.txt",
-        Some(Text::Picks) => "picks.txt",
-    }
-}
+// A fault as this program says it: its number, the file and the line, and what it means.
+#[derive(Drop)]
+struct Said(TextFault);
 
-// One line: where the fault is, its number and what it means.
-fn say_fault(rt: &HostRuntime, fault: TextFault) -> anyhow::Result<()> {
-    let name = file_name(fault.text);
-    let cause = fault.cause;
-    let number = cause.number();
-    match fault.line {
-        None => eprintln!(rt; "quotation: fault {number} in {name}: {cause}")?,
-        Some(line) => eprintln!(rt; "quotation: fault {number} in {name}, line {line}: {cause}")?,
+impl fmt::Display for Said {
+    fn fmt<W: fmt::Write>(&self, f: &mut fmt::Formatter<W>) -> fmt::Result {
+        let TextFault { text, line, cause } = self.0;
+        let name = match text {
+            None => "the call",
+            Some(Text::Rules) => "rules.txt",
+            Some(Text::Picks) => "picks.txt",
+        };
+        write!(f, "fault {} in {name}", cause.number())?;
+        if let Some(line) = line {
+            write!(f, ", line {line}")?;
+        }
+        write!(f, ": {cause}")
     }
-    Ok(())
 }
 
 // The faulty line as it stands in its text, whatever its bytes are.
@@ -31,11 +32,11 @@ fn show_line(rt: &HostRuntime, bytes: &[u8]) -> anyhow::Result<()> {
     Ok(())
 }
 
-pub fn explain(rt: &HostRuntime, rules: &[u8], picks: &[u8], budget: u64) -> anyhow::Result<()> {
-    if let Some(fault) = first_fault(rules, picks, budget) {
-        say_fault(rt, fault)?;
+pub fn explain(rt: &HostRuntime, request: &Request<'_>) -> anyhow::Result<()> {
+    if let Some(fault) = request.first_fault() {
+        eprintln!(rt; "quotation: {}", Said(fault))?;
     }
-    if let Some(line) = faulty_line(rules, picks, budget) {
+    if let Some(line) = request.faulty_line() {
         show_line(rt, line.bytes)?;
     }
     Ok(())

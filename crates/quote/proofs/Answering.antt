@@ -1,7 +1,8 @@
 -- What a session's completion says of an order, in lines.
-use Rattle.std.proofs.Common.{◌≡◌, ℕ, ◌+◌, ◌-◌, ◌*◌, ◌^◌, ◌<◌, ◌≤◌, Bool, true, ltb, leb, List, ◌++◌, map, length, take, drop, Some, None, Option, sym, refl, ap, ◌∙◌, subst, inl, inr, arith}
+use Rattle.std.proofs.Common.{◌≡◌, ℕ, ◌+◌, ◌-◌, ◌^◌, ◌<◌, ◌≤◌, Bool, true, leb, List, ◌++◌, map, length, take, drop, Some, None, Option, sym, refl, ap, ◌∙◌, subst, inl, inr, arith}
 use lib.ListN.{length-map}
-use Rattle.std.proofs.lemmas.Bool.{cond-true, cond-false, le-leb, le-ltb, and_from}
+use Rattle.std.proofs.lemmas.Bool.{le-leb}
+use Rattle.std.proofs.lemmas.Bool.Decides.{nat_tests}
 use Rattle.std.proofs.lemmas.List.{take_at}
 use Rattle.std.specs.Option.{unwrap_or}
 use Rattle.builds.specs.Builds.{Build, first_build}
@@ -19,29 +20,22 @@ use Rattle.search.specs.Standing.{end_by}
 use Rattle.session.specs.declared.session.Session.{Session}
 use Rattle.session.specs.View.{state_of}
 use Rattle.session.specs.Completing.{Settles, VerdictRight}
-use Rattle.listing.specs.Listing.{value_lines, build_lines, none_line, spent_line, build_fits, written, written_count, BuildLaw}
+use Rattle.listing.specs.Listing.{value_lines, none_line, spent_line, build_fits, written, written_count, BuildLaw}
 use Rattle.quote.specs.Quoting.{found_lines, Tells, Written}
 
 -- what the session says, which was told this bank and these picks
 module _ {X : Type 0} {g : _} (meaning : X → Bank) (b : X) (ps : List ℕ) (s : Session X g) (bank : s.bank ≡ b) (picks : (state_of s).picks ≡ ps) where
   pub settled : (v w : Verdict) (before after : List ℕ) → v ≡ w → VerdictRight (meaning s.bank).width (first_build (meaning s.bank).width (fulfils (meaning s.bank) (state_of s).picks)) v before after →
       VerdictRight (meaning b).width (first_build (meaning b).width (fulfils (meaning b) ps)) w before after
-  settled v w before after e h =
-      subst (λ u. VerdictRight (meaning b).width (first_build (meaning b).width (fulfils (meaning b) ps)) u before after) e
-      (subst (λ qs. VerdictRight (meaning b).width (first_build (meaning b).width (fulfils (meaning b) qs)) v before after) picks
-      (subst (λ x. VerdictRight (meaning x).width (first_build (meaning x).width (fulfils (meaning x) (state_of s).picks)) v before after) bank h))
+  settled v w before after e h = rw (bank, picks, e) at h
 
   pub spent_does : (v : Verdict) (budget room steps : ℕ) (place : List ℕ) (s' : State) → v ≡ Spent → room ≡ 128 → Does (meaning s.bank) (state_of s) (complete budget room) (said (end_by v (bits (take (meaning s.bank).width place))) steps) s' →
       Does (meaning b) (state_of s) (complete budget 128) (spent steps) s'
-  spent_does v budget room steps place s' e r h =
-      subst (λ x. Does (meaning x) (state_of s) (complete budget 128) (spent steps) s') bank
-      (subst (λ n. Does (meaning s.bank) (state_of s) (complete budget n) (spent steps) s') r
-      (subst (λ u. Does (meaning s.bank) (state_of s) (complete budget room) (said (end_by u (bits (take (meaning s.bank).width place))) steps) s') e h))
+  spent_does v budget room steps place s' e r h = rw (e, r, bank) at h
 
 -- lines that have room
 pub put_lines : (Says : List ℕ → Type 0) (old lines : List ℕ) (fits : Bool) (n : ℕ) (new : List ℕ) → fits ≡ true → Says lines → n ≡ unwrap_or (written_count fits lines) 0 → new ≡ written fits lines old → Written Says old n new
-put_lines Says old lines fits n new f s a b =
-    record { lines = lines; says = s; count = a ∙ ap (λ o. unwrap_or o 0) (cond-true fits (Some (length lines)) None f); listing = b ∙ cond-true fits (lines ++ drop (length lines) old) old f }
+put_lines Says old lines fits n new f s a b = record { lines = lines; says = s; count = rw f at a; listing = rw f at b }
 
 module _ (B : Bank) (ps : List ℕ) (budget : ℕ) (old : List ℕ) (narrow : B.width ≤ 128) (room : 1792 ≤ length old) where
   abbrev found : Option Build
@@ -58,49 +52,44 @@ module _ (B : Bank) (ps : List ℕ) (budget : ℕ) (old : List ℕ) (narrow : B.
     where
       here : (β : Build) → found ≡ Some β → after ≡ map num β ++ drop B.width before → Written (Tells found f budget) old n new
       here β e z =
-          let whole = (first→ B.width (fulfils B ps) β e).passes.whole in
-          let long = length-map β num in
-          let front : take B.width after ≡ map num β = ap (take B.width) z ∙ take_at (map num β) (drop B.width before) B.width (long ∙ whole) in
-          let count : length (take B.width after) ≡ B.width = ap length front ∙ long ∙ whole in
-          let lines : value_lines 0 (take B.width after) ≡ build_lines 0 β = ap (value_lines 0) front ∙ law β 0 in
-          put_lines (Tells found f budget) old (value_lines 0 (take B.width after)) (build_fits (take B.width after) old) n new
-          (and_from _ _ (le-leb (length (take B.width after)) 128 (omega arith)) (le-leb (14 * length (take B.width after)) (length old) (omega arith)))
-          (inl (lines ∙ ap found_lines (sym e))) a b
+          let long : length (map num β) ≡ B.width = length-map β num ∙ (first→ B.width (fulfils B ps) β e).passes.whole in
+          let front : take B.width after ≡ map num β = rw z (take_at (map num β) (drop B.width before) B.width long) in
+          let count = ap length front ∙ long in
+          let fits : build_fits (take B.width after) old ≡ true = grind (arith, nat_tests) in
+          put_lines (Tells found f budget) old _ _ n new fits (inl (ap (value_lines 0) front ∙ law β 0 ∙ ap found_lines (sym e))) a b
 
       go : (x : Option Build) → found ≡ x → Settles B.width x Found before after → Written (Tells found f budget) old n new
       go (Some β) e t = here β e t.1
-      go None e t = absurd (let z : ◌≡◌ {A = ℕ} 0 1 = let y = t.0 in cc in omega arith)
+      go None e t = let y = t.0 in cc
+
+  -- a line of one letter
+  one_line : (line : List ℕ) (n : ℕ) (new : List ℕ) → Tells found f budget line → n ≡ unwrap_or (written_count (leb 2 (length old)) line) 0 → new ≡ written (leb 2 (length old)) line old → Written (Tells found f budget) old n new
+  one_line line n new s a b = put_lines (Tells found f budget) old line _ n new (le-leb 2 (length old) (omega arith)) s a b
 
   -- none
   pub none_told : (before after : List ℕ) (n : ℕ) (new : List ℕ) → Settles B.width found NoBuild before after →
       n ≡ unwrap_or (written_count (leb 2 (length old)) none_line) 0 → new ≡ written (leb 2 (length old)) none_line old → Written (Tells found f budget) old n new
-  none_told before after n new s a b = go found refl s
+  none_told before after n new s a b = one_line none_line n new (inl (go found s)) a b
     where
-      go : (x : Option Build) → found ≡ x → Settles B.width x NoBuild before after → Written (Tells found f budget) old n new
-      go (Some β) e t = absurd (let z : ◌≡◌ {A = ℕ} 0 1 = let y = t.0 in cc in omega arith)
-      go None e t = put_lines (Tells found f budget) old none_line (leb 2 (length old)) n new (le-leb 2 (length old) (omega arith)) (inl (ap found_lines (sym e))) a b
+      go : (x : Option Build) → Settles B.width x NoBuild before after → none_line ≡ found_lines x
+      go (Some β) t = let y = t.0 in cc
+      go None t = refl
 
   -- spent: the search made as many steps as the budget has and needed one more
   pub spent_told : (s s' : State) (steps n : ℕ) (new : List ℕ) → budget ≤ 2 ^ 62 → s.picks ≡ ps → Does B s (complete budget 128) (spent steps) s' →
       n ≡ unwrap_or (written_count (leb 2 (length old)) spent_line) 0 → new ≡ written (leb 2 (length old)) spent_line old → Written (Tells found f budget) old n new
-  spent_told s s' steps n new small same does a b =
-      put_lines (Tells found f budget) old spent_line (leb 2 (length old)) n new (le-leb 2 (length old) (omega arith)) (inr (refl, few)) a b
+  spent_told s s' steps n new small same does a b = one_line spent_line n new (inr (refl, few)) a b
     where
       performed : refusal B.width s (complete budget 128) ≡ None
-      performed = cond-false (ltb (2 ^ 62) budget) (Some 5) _ (le-ltb (2 ^ 62) budget small) ∙ cond-true (leb B.width 128) None (Some 8) (le-leb B.width 128 narrow)
+      performed = grind (arith, nat_tests)
 
       completes : Completes B s budget (start s.picks s.point.store) (spent steps) s'
       completes = subst (λ r. Refuses r B s (complete budget 128) (spent steps) s') performed does
 
       bound : (e : End) → Search (quest B s.picks) budget (start s.picks s.point.store) completes.steps s'.point e → spent steps ≡ said e completes.steps → budget < 2 ^ (f + 1) - 1
-      bound (built β) w z = absurd (let y : ◌≡◌ {A = ℕ} 0 1 = cc in omega arith)
-      bound nothing w z = absurd (let y : ◌≡◌ {A = ℕ} 0 1 = cc in omega arith)
-      bound out w z =
-          let q = search_bound B s.picks s.point.store completes.steps s'.point w.steps in
-          let p : open_options B.width s.picks ≡ f = ap (open_options B.width) same in
-          let r : 2 ^ (open_options B.width s.picks + 1) - 1 ≡ 2 ^ (f + 1) - 1 = ap (λ k. 2 ^ (k + 1) - 1) p in
-          let whole = w.whole in
-          omega (arith, q, r, whole)
+      bound (built β) w z = cc
+      bound nothing w z = cc
+      bound out w z = let whole = w.whole in omega (arith, simp same at (search_bound B s.picks s.point.store completes.steps s'.point w.steps))
 
       few : budget < 2 ^ (f + 1) - 1
       few = bound completes.end completes.search completes.reply

@@ -1,4 +1,3 @@
 mod Telling
 mod Answering
-mod Quoting
 mod Faulting

@@ -1,3 +1,4 @@
+pub mod Requests
 pub mod Reading
 pub mod Quoting
 pub mod Faulty

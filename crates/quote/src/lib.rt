@@ -6,7 +6,7 @@ mod answer;
 pub mod faulty;
 pub mod faulty_line;
 pub mod faulty_place;
-mod order;
 pub mod quote;
 mod read;
+pub mod request;
 mod tables;

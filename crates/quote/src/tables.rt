@@ -7,9 +7,5 @@ use diagrams::row::Row;
 pub(crate) fn no_rows() -> [Row; 2048]
     ensures { length result ≡ 2048 }
 {
-    [Row {
-        option: 0,
-        low: 0,
-        high: 0,
-    }; 2048]
+    [Row::default(); 2048]
 }

@@ -9,6 +9,7 @@ ghost use Rattle.quote.specs.Faulty.{line_in, place_told, place_left};
 ghost use Rattle.quote.specs.Quoting.{Quoted};
 
 use quote::faulty_place::FaultyPlace;
+use quote::request::Request;
 
 // Quotes an order given as two texts; says how many bytes of the listing it wrote.
 #[unsafe(no_mangle)]
@@ -16,7 +17,12 @@ pub extern "C" fn quote(rules: &[u8], picks: &[u8], budget: u64, listing: &mut [
     ensures quoted { Quoted rules.now picks.now budget listing.old result listing.new }
     ensures width { WidthLaw }
 {
-    quote::quote::quote(rules, picks, budget, listing)
+    let request = Request {
+        rules,
+        picks,
+        budget,
+    };
+    request.quote(listing)
 }
 
 // Says whether a line of the order is at fault, and where it stands; the place stays as it was where there is none.
@@ -30,5 +36,10 @@ pub extern "C" fn faulty_line_place(
     ensures told { result ≡ place_told (line_in (order_of rules.now picks.now budget) rules.now picks.now) }
     ensures place { place.new ≡ place_left (line_in (order_of rules.now picks.now budget) rules.now picks.now) place.old }
 {
-    quote::faulty::faulty_line_place(rules, picks, budget, place)
+    let request = Request {
+        rules,
+        picks,
+        budget,
+    };
+    request.faulty_line_place(place)
 }

@@ -1,12 +1,14 @@
 -- Calls and replies as the theory has them.
-use Rattle.std.specs.Prelude.{ℕ, take}
-use Rattle.builds.specs.Values.{bits}
+use Rattle.std.specs.Prelude.{ℕ, Ok, Err, Result}
+use Rattle.bank.specs.declared.refusal.Refusal.{Refusal}
 use Rattle.bank.specs.Numbers.{number_of}
-use Rattle.search_theory.specs.Calls.{Call, pick, release, complete, continue, forced, forget, Reply, refused, done, build, no_build, spent, only, either}
+use Rattle.search_theory.specs.Calls.{Call, pick, release, complete, continue, forced, forget, Reply, refused, done}
+use Rattle.session.specs.Completing.{completion_reply}
+use Rattle.session.specs.Forcing.{force_reply}
 use Rattle.replay.specs.declared.call.Call.{Call as Asked}
 use Rattle.replay.specs.declared.call.Call.TheVariants.{Pick, Release, Complete, Resume, Forced, Forget}
-use Rattle.replay.specs.declared.reply.Reply.{Reply as Told}
-use Rattle.replay.specs.declared.reply.Reply.TheVariants.{Refused, Done, Build, NoBuild, Spent, Only, Open}
+use Rattle.replay.specs.declared.reply.Reply.{Reply as Given}
+use Rattle.replay.specs.declared.reply.Reply.TheVariants.{Done, Completed, Told}
 
 abbrev pub call_of : Asked → Call
 call_of (Pick o v) = pick o v
@@ -16,12 +18,13 @@ call_of (Resume budget room) = continue budget room
 call_of (Forced o budget) = forced o budget
 call_of Forget = forget
 
--- over a bank of W options
-abbrev pub reply_of : ℕ → Told → Reply
-reply_of W (Refused e) = refused (number_of e)
-reply_of W Done = done
-reply_of W (Build places n) = build (bits (take W places)) n
-reply_of W (NoBuild n) = no_build n
-reply_of W (Spent n) = spent n
-reply_of W (Only v n) = only v n
-reply_of W (Open n) = either n
+-- what a call gave, over a bank of W options
+abbrev pub given : ℕ → Given → Reply
+given W Done = done
+given W (Completed c place) = completion_reply W (Ok c) place
+given W (Told f) = force_reply f.answer f.steps
+
+-- the reply to a call: refused, or what it gave
+abbrev pub reply_of : ℕ → Result Given Refusal → Reply
+reply_of W (Ok r) = given W r
+reply_of W (Err e) = refused (number_of e)

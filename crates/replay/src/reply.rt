@@ -1,15 +1,15 @@
-// What a session replies to a call.
-use bank::refusal::Refusal;
+// What a session replies to a call that it does not refuse.
+use session::completion::Completion;
+use session::forcing::Forced;
 
-// A build stands in the first places, as many as there are options, of a place of fixed size, since nothing allocates; the number
-// is the steps.
-#[derive(Clone, Copy, Drop)]
+// At a verdict of `Build` the build stands in the first places, as many as there are options, of a place of fixed size, since
+// nothing allocates.
+#[derive(Clone, Copy, PartialEq, Eq, Debug, Drop)]
 pub enum Reply {
-    Refused(Refusal),
     Done,
-    Build([u8; 128], u64),
-    NoBuild(u64),
-    Spent(u64),
-    Only(bool, u64),
-    Open(u64),
+    Completed {
+        completion: Completion,
+        place: [u8; 128],
+    },
+    Told(Forced),
 }

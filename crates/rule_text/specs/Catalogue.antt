@@ -21,9 +21,13 @@ pub record Catalogue : Type 0 where
   pub clauses : List (List ℕ)
   pub groups : List Rule
 
+-- w options without a rule, of which the block is all
+abbrev pub bare : ℕ → ℕ → Catalogue
+bare stage w = record { stage = stage; width = w; first = 0; size = w; rows = []; roots = []; clauses = []; groups = [] }
+
 -- before the first line
 abbrev pub no_catalogue : Catalogue
-no_catalogue = record { stage = 0; width = 1; first = 0; size = 1; rows = []; roots = []; clauses = []; groups = [] }
+no_catalogue = bare 0 1
 
 -- the diagrams, moved to their block, and then the clauses and the groups
 abbrev pub catalogue_bank : Catalogue → Bank

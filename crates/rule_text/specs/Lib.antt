@@ -2,5 +2,4 @@ pub mod Catalogue
 pub mod RuleLines
 pub mod Kinds
 pub mod View
-pub mod Opened
-pub mod Frames
+pub mod Lending

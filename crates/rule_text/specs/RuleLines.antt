@@ -1,7 +1,9 @@
 -- How a rule text is read, line by line, where there is room for so many rows. The order of the checks within a line: letter,
 -- length up to k (or all), those fields, too many, full length, the other fields, the table's own checks.
-use Rattle.std.specs.Prelude.{ℕ, zero, suc, ◌+◌, Bool, false, cond, ◌&&◌, List, [], ◌∷◌, ◌++◌, length, Some, None, Ok, Err, Option, Result, ◌==◌, nat_le, slice_index, slice_index_or}
+use Rattle.std.specs.Prelude.{ℕ, zero, suc, ◌+◌, Bool, false, cond, ◌&&◌, ◌||◌, List, [], ◌∷◌, ◌++◌, length, Ok, Err, Result, ◌==◌, nat_le, nat_lt, slice_index, slice_index_or}
+use Rattle.bank.specs.declared.table_fault.TableCause.TheVariants.{BlockOutside}
 use Rattle.bank.specs.Numbers.{Located}
+use Rattle.bank.specs.Checks.{at_item, refused_at, width_cause}
 use Rattle.lines.specs.Lines.{Line, lines_of}
 use Rattle.diagrams.specs.declared.row.Row.{Row}
 use Rattle.diagrams.specs.Causes.{row_cause, root_cause}
@@ -9,8 +11,9 @@ use Rattle.clauses.specs.Opening.{add_cause as clause_cause, room_cause as claus
 use Rattle.groups.specs.Group.{Rule}
 use Rattle.groups.specs.Faults.{add_cause as group_cause, room_cause as group_room}
 use Rattle.texts.specs.Faults.{Layered, Fault, at_line, line_fault, table_fault}
-use Rattle.texts.specs.Fields.{plain_line, listed_line, listed_rest, carried}
-use Rattle.rule_text.specs.Catalogue.{Catalogue, no_catalogue}
+use Rattle.texts.specs.Fields.{plain_line, listed_line, listed_rest}
+use Rattle.texts.specs.Reading.{read_lines, read_until}
+use Rattle.rule_text.specs.Catalogue.{Catalogue, bare, no_catalogue}
 
 -- the kind of a letter: W 1, S 2, N 3, D 4, C 5, K 6; any other byte 0
 abbrev pub kind_of : ℕ → ℕ
@@ -22,29 +25,29 @@ abbrev pub in_turn : ℕ → ℕ → Bool
 in_turn stage kind =
     cond (kind == 0) false (cond (kind == 1) (stage == 0) (cond (kind == 2) (stage == 1) (nat_le 1 stage && nat_le stage kind)))
 
--- what a table's check leaves of the catalogue that a line makes
-abbrev pub checked : Option Located → Catalogue → Result Catalogue Layered
-checked None c = Ok c
-checked (Some f) c = Err (table_fault f.number)
+-- what a table's check leaves: go on where it passes, or its fault
+abbrev pub if_passed : Result (Unit {0}) Located → Result Catalogue Layered → Result Catalogue Layered
+if_passed (Ok x) go = go
+if_passed (Err f) go = Err (table_fault f.number)
 
-abbrev pub checked_result : Result (Unit {0}) Located → Catalogue → Result Catalogue Layered
-checked_result (Ok x) c = Ok c
-checked_result (Err f) c = Err (table_fault f.number)
+-- the catalogue that a line makes, if the table's check passes
+abbrev pub checked : Result (Unit {0}) Located → Catalogue → Result Catalogue Layered
+checked r c = if_passed r (Ok c)
 
 -- W: the number of options; without an S line the block is all of them
 abbrev pub read_width : Catalogue → List ℕ → Result Catalogue Layered
-read_width c fs =
-    let w = slice_index_or fs 0 0 in
-    cond (nat_le 1 w && nat_le w 128) (Ok (record { stage = 1; width = w; first = 0; size = w; rows = []; roots = []; clauses = []; groups = [] })) (Err (table_fault 11))
+read_width c fs = checked (width_cause (slice_index_or fs 0 0)) (bare 1 (slice_index_or fs 0 0))
 
 -- S: the first option and the size of the block, which has an option and ends within W
+abbrev pub block_cause : ℕ → ℕ → ℕ → Result (Unit {0}) Located
+block_cause width first size = refused_at BlockOutside (at_item (size == 0 || nat_lt width (first + size)) 0)
+
 abbrev pub read_block : Catalogue → List ℕ → Result Catalogue Layered
 read_block c fs =
     let first = slice_index_or fs 0 0 in
     let size = slice_index_or fs 1 0 in
-    cond (nat_le 1 size && nat_le (first + size) c.width)
-    (Ok (record { stage = 2; width = c.width; first = first; size = size; rows = []; roots = []; clauses = c.clauses; groups = c.groups }))
-    (Err (table_fault 25))
+    checked (block_cause c.width first size)
+    (record { stage = 2; width = c.width; first = first; size = size; rows = []; roots = []; clauses = c.clauses; groups = c.groups })
 
 -- N: one row more
 abbrev pub row_from : List ℕ → Row
@@ -52,19 +55,14 @@ row_from fs = record { option = slice_index fs 0; low = slice_index fs 1; high =
 
 abbrev pub read_row : ℕ → Catalogue → List ℕ → Result Catalogue Layered
 read_row room c fs =
-    checked_result (row_cause room c.size c.rows (length c.rows) (row_from fs))
+    checked (row_cause room c.size c.rows (length c.rows) (row_from fs))
     (record { stage = 3; width = c.width; first = c.first; size = c.size; rows = c.rows ++ (row_from fs ∷ []); roots = c.roots; clauses = c.clauses; groups = c.groups })
 
 -- D: one root more
 abbrev pub read_root : Catalogue → List ℕ → Result Catalogue Layered
 read_root c fs =
-    checked_result (root_cause (length c.rows) (length c.roots) (slice_index fs 0))
+    checked (root_cause (length c.rows) (length c.roots) (slice_index fs 0))
     (record { stage = 4; width = c.width; first = c.first; size = c.size; rows = c.rows; roots = c.roots ++ (slice_index fs 0 ∷ []); clauses = c.clauses; groups = c.groups })
-
--- go on where the table has room
-abbrev pub if_room : Option Located → Result Catalogue Layered → Result Catalogue Layered
-if_room None go = go
-if_room (Some f) go = Err (table_fault f.number)
 
 -- C: one clause more, of its literals
 abbrev pub read_literals : Catalogue → List ℕ → Result Catalogue Layered
@@ -74,7 +72,7 @@ read_literals c ls =
 
 abbrev pub read_clause : Catalogue → Line → Result Catalogue Layered
 read_clause c l =
-    listed_line 1 l (λ fs. if_room (clause_room (length c.clauses) (slice_index fs 0)) (listed_rest 1 (slice_index fs 0) l (read_literals c)))
+    listed_line 1 l (λ fs. if_passed (clause_room (length c.clauses) (slice_index fs 0)) (listed_rest 1 (slice_index fs 0) l (read_literals c)))
 
 -- K: one group more, of lo, hi and its options
 abbrev pub group_from : List ℕ → List ℕ → Rule
@@ -87,7 +85,7 @@ read_options c fs os =
 
 abbrev pub read_group : Catalogue → Line → Result Catalogue Layered
 read_group c l =
-    listed_line 3 l (λ fs. if_room (group_room (length c.groups) (slice_index fs 2)) (listed_rest 3 (slice_index fs 2) l (read_options c fs)))
+    listed_line 3 l (λ fs. if_passed (group_room (length c.groups) (slice_index fs 2)) (listed_rest 3 (slice_index fs 2) l (read_options c fs)))
 
 -- one line of a known kind, in turn
 abbrev pub read_kind : ℕ → ℕ → Catalogue → Line → Result Catalogue Layered
@@ -104,24 +102,18 @@ unfoldable pub read_rule : ℕ → Catalogue → Line → Result Catalogue Layer
 read_rule room c l =
     cond (in_turn c.stage (kind_of (slice_index l.bytes 0))) (read_kind room (kind_of (slice_index l.bytes 0)) c l) (Err (line_fault 21))
 
--- the lines from number n on; a text without lines has no letter at line 1
-unfoldable pub read_rules : ℕ → ℕ → Catalogue → List Line → Result Catalogue Fault
-read_rules room n c [] = cond (c.stage == 0) (Err (at_line 1 1 (line_fault 21))) (Ok c)
-read_rules room n c (l ∷ ls) = carried 1 n (read_rule room c l) (λ d. read_rules room (n + 1) d ls)
+-- after the last line; a text without lines has no letter at line 1
+abbrev pub finished : Catalogue → Result Catalogue Fault
+finished c = cond (c.stage == 0) (Err (at_line 1 1 (line_fault 21))) (Ok c)
+
+abbrev pub if_read : Result Catalogue Fault → Result Catalogue Fault
+if_read (Ok c) = finished c
+if_read (Err f) = Err f
 
 -- a whole rule text
 abbrev pub rules_text : ℕ → List ℕ → Result Catalogue Fault
-rules_text room text = read_rules room 1 no_catalogue (lines_of text)
-
--- what a line leaves: the catalogue that it makes, or the old one at a fault
-abbrev pub kept_by : Catalogue → Result Catalogue Layered → (Catalogue → Catalogue) → Catalogue
-kept_by c (Ok d) go = go d
-kept_by c (Err f) go = c
+rules_text room text = if_read (read_lines 1 (read_rule room) 1 no_catalogue (lines_of text))
 
 -- the catalogue where the reading stops: after the last line, or before the first that is at fault
-unfoldable pub read_until : ℕ → Catalogue → List Line → Catalogue
-read_until room c [] = c
-read_until room c (l ∷ ls) = kept_by c (read_rule room c l) (λ d. read_until room d ls)
-
 abbrev pub rules_until : ℕ → List ℕ → Catalogue
-rules_until room text = read_until room no_catalogue (lines_of text)
+rules_until room text = read_until (read_rule room) no_catalogue (lines_of text)

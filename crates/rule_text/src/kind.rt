@@ -1,5 +1,5 @@
 // A rule line's first letter decides its kind, and the kinds stand in one order.
-ghost use Rattle.std.specs.Prelude.{◌≡◌, Bool, slice_index};
+ghost use Rattle.std.specs.Prelude.{◌≡◌, slice_index};
 ghost use Rattle.rule_text.specs.Kinds.{rank_of, stage_of};
 ghost use Rattle.rule_text.specs.RuleLines.{kind_of, in_turn};
 

@@ -1,9 +1,7 @@
 // Reading a rule text into the three tables of rules, line by line.
 #![tactic(auto)]
 
-pub mod frame;
 mod kind;
-mod progress;
 mod rule_line;
-pub mod rules_text;
+mod rules_text;
 pub mod tables;

@@ -1,5 +1,5 @@
 -- What one rule's answer says of the trail's values, be the rule the bank's or a learnt clause.
-use Rattle.std.proofs.Common.{◌≡◌, ℕ, zero, suc, ◌/◌, ◌%◌, ◌<◌, ◌≤◌, Bool, true, false, cond, eqb, ltb, List, [], ◌∷◌, ◌++◌, length, get_or, take, drop, set, None, Some, Ok, Option, option_map, sym, refl, ap, ◌∙◌, subst, arith}
+use Rattle.std.proofs.Common.{◌≡◌, ℕ, ◌/◌, ◌%◌, ◌<◌, ◌≤◌, Bool, true, false, cond, eqb, ltb, List, [], ◌∷◌, ◌++◌, length, get_or, take, drop, set, None, Some, Ok, Option, option_map, sym, refl, ◌∙◌, arith}
 use Rattle.std.proofs.lemmas.Bool.{and_parts, eq-eqb, ne_eqb, ltb-true, ltb-false}
 use Rattle.std.proofs.lemmas.List.{get_or-take, get_or_default, get_or_append_left, length-take-le, get_or-set_same}
 use Rattle.builds.specs.Builds.{Build}
@@ -8,31 +8,26 @@ use Rattle.builds.specs.Answers.{Said, live, answer_of}
 use Rattle.builds.proofs.Tables.{up_to_at}
 use Rattle.bank.specs.declared.refusal.Answer.TheVariants.{Live}
 use Rattle.bank.specs.Banks.{Bank, Duties, Honest, Lives}
-use Rattle.bank.specs.Marking.{mark_cause, answered, written}
+use Rattle.bank.specs.Marking.{Ready, mark_cause, answered, written}
 use Rattle.bank.proofs.Causes.{no_cause, said_live}
 use Rattle.clauses.specs.declared.literal.Literal.{Literal}
 use Rattle.clauses.specs.declared.left.Left.{Left}
 use Rattle.clauses.specs.declared.left.Left.TheVariants.{Nothing, One, Free}
-use Rattle.clauses.specs.Clause.{clause_meets}
+use Rattle.clauses.specs.Clause.{wants, clause_meets}
 use Rattle.clauses.specs.Literals.{numbers, within}
 use Rattle.clauses.specs.Scan.{joins, stepped, scanned, clause_says}
-use Rattle.search_theory.proofs.Values.{num_eqb, num_small}
+use Rattle.clauses.proofs.Scans.{num_wants}
+use Rattle.search_theory.proofs.Values.{num_small}
 use Rattle.search.specs.declared.propagate.Mark.{Mark}
 use Rattle.search.specs.declared.propagate.Finding.{Finding}
 use Rattle.search.specs.declared.propagate.Finding.TheVariants.{Dead, Marks}
 use Rattle.search.specs.Finding.{Hears, Marked}
 
--- one of the first w values, read with any default
-pub front_at : (w : ℕ) (vs : List ℕ) (o d e : ℕ) → w ≤ length vs → o < w → get_or (take w vs) o d ≡ get_or vs o e
-front_at w vs o d e l h = get_or-take w vs o d h ∙ get_or_default vs o d e (omega arith)
-
 -- a rule of the bank that is asked with whole tables is not refused, and its answer is honest
-pub asked : (B : Bank) → Duties B → (rule : ℕ) (values : List ℕ) (room : ℕ) → rule < B.rules → 128 ≤ length values → up_to 2 (take B.width values) ≡ true → 128 ≤ room →
+pub asked : (B : Bank) → Duties B → (rule : ℕ) (values : List ℕ) (room : ℕ) → Ready B.width B.rules rule values room →
     (mark_cause B.width B.rules rule values room ≡ None) × (B.width ≤ length values) × Honest B.width (B.meets rule) (take B.width values) (B.says rule (take B.width values))
-asked B L rule values room k l u r =
-    let n : B.width ≤ 128 = L.narrow in
-    let m : B.width ≤ length values = omega arith in
-    (no_cause B.width B.rules rule values room k m (omega arith) u, m, L.honest rule (take B.width values) k (length-take-le B.width values m) u)
+asked B L rule values room r =
+    (no_cause B.width B.rules rule values room r.known r.long r.wide r.small, r.long, L.honest rule (take B.width values) r.known (length-take-le B.width values r.long) r.small)
 
 module _ (w : ℕ) (values : List ℕ) (long : w ≤ length values) (p : Build → Bool) where
   sized_front : length (take w values) ≡ w
@@ -58,8 +53,8 @@ module _ (w : ℕ) (values : List ℕ) (long : w ≤ length values) (p : Build �
   pub hears_live : (s : Said) (f : Option ℕ) (old new : List ℕ) (r : Option Mark) → Honest w p (take w values) s → f ≡ None → Ok Live ≡ answered f s → new ≡ written f s old → Marked (take w values) (take w new) r → Hears w (take w values) s (option_map Marks r)
   hears_live s f old new r h e a b k =
       let q = said_live f s e a in
-      subst (λ z. Hears w (take w values) z (option_map Marks r)) (sym q.1)
-      (live_hears q.0 old r (subst (Honest w p (take w values)) q.1 h) (subst (λ z. Marked (take w values) (take w z) r) (b ∙ ap (λ z. written z s old) e ∙ ap (λ z. written None z old) q.1) k))
+      rw q.1
+      (live_hears q.0 old r (rw q.1 at h) (rw (b, e, q.1) at k))
 
 -- the one literal that a scan leaves is of an open option below w
 abbrev OpenLeft : ℕ → List ℕ → Left → Type 0
@@ -93,7 +88,7 @@ left_open w v (l ∷ ls) s h k =
 -- what is heard of a learnt clause of which a scan leaves this
 abbrev pub heard_of : Left → Option Finding
 heard_of Nothing = Some Dead
-heard_of (One l) = Some (Marks (record { option = l.number / 2; value = eqb (l.number % 2) 1 }))
+heard_of (One l) = Some (Marks (record { option = l.number / 2; value = wants l.number }))
 heard_of Free = None
 
 module _ (w : ℕ) (values : List ℕ) (ls : List Literal) (long : w ≤ length values) (inside : within w (numbers ls) ≡ true) (small : up_to 2 (take w values) ≡ true) where
@@ -110,10 +105,10 @@ module _ (w : ℕ) (values : List ℕ) (ls : List Literal) (long : w ≤ length 
       record {
         within = k.0;
         free = omega (arith, e, k.1, u, get_or_default (take w values) o 2 0 i);
-        marks = eq-eqb (get_or (set (take w values) o (l.number % 2)) o 2) (num (eqb (l.number % 2) 1)) (get_or-set_same (take w values) o (l.number % 2) 2 i ∙ sym (num_eqb (l.number % 2) (omega arith)));
+        marks = eq-eqb (get_or (set (take w values) o (l.number % 2)) o 2) (num (wants l.number)) (get_or-set_same (take w values) o (l.number % 2) 2 i ∙ sym (num_wants l.number));
       }
   left_says Free k = record { live = refl; still = λ o v l f. ne_eqb (get_or (take w values) o 2) (num v) (λ z. omega (arith, num_small v)) }
 
   -- a learnt clause, by what a scan leaves of it
   pub hears_left : (x : Left) → x ≡ scanned values Nothing ls → answer_of w (clause_meets (numbers ls)) (take w values) ≡ clause_says (take w values) x → Hears w (take w values) (answer_of w (clause_meets (numbers ls)) (take w values)) (heard_of x)
-  hears_left x e a = subst (λ s. Hears w (take w values) s (heard_of x)) (sym a) (left_says x (subst (OpenLeft w values) (sym e) (left_open w values ls Nothing inside tt)))
+  hears_left x e a = rw a (left_says x (rw e (left_open w values ls Nothing inside tt)))

@@ -1,15 +1,18 @@
 -- What a look at all rules finds: the answers of single rules, joined to what the theory says of the trail.
-use Rattle.std.proofs.Common.{◌≡◌, ℕ, zero, suc, ◌<◌, ◌≤◌, Bool, true, false, List, [], ◌∷◌, length, get_or, take, Some, Option, sym, refl, ap, ◌∙◌, subst, inl, inr, arith}
-use Rattle.std.proofs.lemmas.Bool.{cases_eq, cases_lt, lt-ltb, le-ltb, or_left, or_right}
+use Rattle.std.proofs.Common.{◌≡◌, ℕ, zero, suc, ◌<◌, ◌≤◌, Bool, true, false, List, [], ◌∷◌, length, get_or, take, Some, Option, sym, refl, ap, ◌∙◌, inl, inr, arith}
+use Rattle.std.proofs.lemmas.Bool.{cases_lt, lt-ltb, le-ltb, or_left, or_right}
 use Rattle.std.proofs.lemmas.List.FromFn.{take-map-range_with_len}
 use Rattle.builds.specs.Values.{up_to}
 use Rattle.builds.specs.Answers.{Said, answer_of}
 use Rattle.bank.specs.Banks.{Bank, Duties}
+use Rattle.bank.specs.Marking.{Ready}
 use Rattle.clauses.specs.Clause.{clause_meets}
 use Rattle.clauses.specs.Literals.{within}
 use Rattle.search_theory.specs.Trails.{Entry, unset, picked, decided, implied, Trail, Store, Source, bank_rule, learnt_rule}
 use Rattle.search_theory.specs.Searches.{any_below, any_of, is_dead, clause_dead, dead_at, marks_at, shown, values_from}
-use Rattle.search_theory.proofs.Banks.{length_values, at_values, up_to_values}
+use Rattle.search_theory.proofs.Banks.{any_intro, length_values, at_values, up_to_values}
+use Rattle.search_theory.proofs.Jumping.{of_intro}
+use Rattle.search_theory.proofs.Values.{num_small}
 use Rattle.search.specs.declared.propagate.Finding.{Finding}
 use Rattle.search.specs.declared.propagate.Finding.TheVariants.{Dead, Marks}
 use Rattle.search.specs.Finding.{Silent, Told, Hears, Noted, Quietly, Asks, AllInside}
@@ -17,26 +20,14 @@ use Rattle.trail.proofs.Tables.{values_made}
 
 shown_open : (e : Entry) → shown e ≡ 2 → e ≡ unset
 shown_open unset h = refl
-shown_open (picked true) h = absurd (omega arith)
-shown_open (picked false) h = absurd (omega arith)
-shown_open (decided j) h = absurd (omega arith)
-shown_open (implied true j s) h = absurd (omega arith)
-shown_open (implied false j s) h = absurd (omega arith)
-
-any_intro : (n : ℕ) (q : ℕ → Bool) (i : ℕ) → i < n → q i ≡ true → any_below n q ≡ true
-unfolding any_below
-any_intro zero q i l e = absurd (omega arith)
-any_intro (suc n) q i l e = elim (cases_eq i n) [ inl f ↦ or_right (any_below n q) (q n) (ap q (sym f) ∙ e) | inr f ↦ or_left (any_below n q) (q n) (any_intro n q i (omega arith) e) ]
+shown_open (picked v) h = absurd (omega (arith, num_small v))
+shown_open (decided j) h = cc
+shown_open (implied v j s) h = absurd (omega (arith, num_small v))
 
 none_below : (n : ℕ) (q : ℕ → Bool) → ((i : ℕ) → i < n → q i ≡ false) → any_below n q ≡ false
 unfolding any_below
 none_below zero q h = refl
 none_below (suc n) q h = rw (none_below n q (λ i l. h i (omega arith)), h n (omega arith))
-
-of_intro : (q : List ℕ → Bool) (st : Store) (k : ℕ) → k < length st → q (get_or st k []) ≡ true → any_of q st ≡ true
-of_intro q [] k l e = absurd (omega arith)
-of_intro q (c ∷ st) zero l e = or_left (q c) (any_of q st) e
-of_intro q (c ∷ st) (suc k) l e = or_right (q c) (any_of q st) (of_intro q st k (omega arith) e)
 
 none_of : (q : List ℕ → Bool) (st : Store) → ((k : ℕ) → k < length st → q (get_or st k []) ≡ false) → any_of q st ≡ false
 none_of q [] h = refl
@@ -54,8 +45,12 @@ module _ (B : Bank) (L : Duties B) (t : Trail) (values : List ℕ) (made : value
   same =
       ap (take B.width) (made ∙ values_made 128 t) ∙ take-map-range_with_len (λ i. shown (t i)) 0 128 B.width L.narrow ∙ sym (values_made B.width t)
 
-  pub small : up_to 2 vs ≡ true
+  small : up_to 2 vs ≡ true
   small = ap (up_to 2) same ∙ up_to_values B.width 0 t
+
+  -- each rule of the bank may be asked
+  pub ready : (r : ℕ) → r < B.rules → Ready B.width B.rules r values 128
+  ready r l = record { known = l; long = omega (arith, whole, L.narrow); wide = L.narrow; small = small }
 
   abbrev learnt_says : ℕ → Said
   learnt_says k = answer_of B.width (clause_meets (get_or st k [])) vs
@@ -63,7 +58,7 @@ module _ (B : Bank) (L : Duties B) (t : Trail) (values : List ℕ) (made : value
   -- a learnt clause is heard at its own literals, and these are the store's
   pub learnt_told : (k : ℕ) (c : List ℕ) (r : Option Finding) → k < length st → AllInside B.width st → c ≡ get_or st k [] →
       ((w : ℕ) → w ≤ 128 → within w c ≡ true → up_to 2 (take w values) ≡ true → Hears w (take w values) (answer_of w (clause_meets c) (take w values)) r) → Hears B.width vs (learnt_says k) r
-  learnt_told k c r l inside e told = subst (λ x. Hears B.width vs (answer_of B.width (clause_meets x) vs) r) e (told B.width L.narrow (ap (within B.width) e ∙ inside k l) small)
+  learnt_told k c r l inside e told = rw (← e) (told B.width L.narrow (ap (within B.width) e ∙ inside k l) small)
 
   free : (o : ℕ) → o < B.width → get_or vs o 2 ≡ 2 → t o ≡ unset
   free o l e = shown_open (t o) (sym (at_values B.width t o l) ∙ ap (λ x. get_or x o 2) (sym same) ∙ e)
@@ -72,23 +67,23 @@ module _ (B : Bank) (L : Duties B) (t : Trail) (values : List ℕ) (made : value
   still_free o l e = ap (λ x. get_or x o 2) same ∙ at_values B.width t o l ∙ ap shown e
 
   dead_bank : (r : ℕ) → r < B.rules → is_dead (B.says r vs) ≡ true → dead_at B st (values_from B.width 0 t) ≡ true
-  dead_bank r l e = subst (λ x. dead_at B st x ≡ true) same (or_left (any_below B.rules (λ r. is_dead (B.says r vs))) (any_of (clause_dead B.width vs) st) (any_intro B.rules (λ r. is_dead (B.says r vs)) r l e))
+  dead_bank r l e = rw (← same) (or_left _ _ (any_intro B.rules _ r l e))
 
   dead_learnt : (k : ℕ) → k < length st → is_dead (learnt_says k) ≡ true → dead_at B st (values_from B.width 0 t) ≡ true
-  dead_learnt k l e = subst (λ x. dead_at B st x ≡ true) same (or_right (any_below B.rules (λ r. is_dead (B.says r vs))) (any_of (clause_dead B.width vs) st) (of_intro (clause_dead B.width vs) st k l e))
+  dead_learnt k l e = rw (← same) (or_right _ _ (of_intro _ st k l e))
 
   marks_bank : (r o : ℕ) (x : Bool) → r < B.rules → Told B.width vs (B.says r vs) o x → Noted B st t o x (bank_rule r)
   marks_bank r o x l k = record {
     within = k.within;
     free = free o k.within k.free;
-    marks = subst (λ z. marks_at B st z (bank_rule r) o x ≡ true) same (rw (lt-ltb r B.rules l) k.marks);
+    marks = rw (← same, lt-ltb r B.rules l) k.marks;
   }
 
   marks_learnt : (h o : ℕ) (x : Bool) → h < length st → Told B.width vs (learnt_says h) o x → Noted B st t o x (learnt_rule h)
   marks_learnt h o x l k = record {
     within = k.within;
     free = free o k.within k.free;
-    marks = subst (λ z. marks_at B st z (learnt_rule h) o x ≡ true) same (rw (lt-ltb h (length st) l) k.marks);
+    marks = rw (← same, lt-ltb h (length st) l) k.marks;
   }
 
   -- what a rule was found to ask for, be it the bank's or a learnt one
@@ -101,13 +96,13 @@ module _ (B : Bank) (L : Duties B) (t : Trail) (values : List ℕ) (made : value
   asks_learnt k (Marks m) l h = marks_learnt k m.option m.value l h
 
   pub calm : ((r : ℕ) → r < B.rules → Silent B.width vs (B.says r vs)) → ((k : ℕ) → k < length st → Silent B.width vs (learnt_says k)) → Quietly B st t
-  calm f g = record { live = subst (λ x. dead_at B st x ≡ false) same none; still = still }
+  calm f g = record { live = rw (← same) none; still = still }
     where
       none : dead_at B st vs ≡ false
       none = rw (none_below B.rules (λ r. is_dead (B.says r vs)) (λ r l. (f r l).live), none_of (clause_dead B.width vs) st (λ k l. (g k l).live))
 
       still : (s : Source) (o : ℕ) (v : Bool) → o < B.width → t o ≡ unset → marks_at B st (values_from B.width 0 t) s o v ≡ false
       still (bank_rule r) o v l e =
-          subst (λ z. marks_at B st z (bank_rule r) o v ≡ false) same (elim (cases_lt r B.rules) [ inl k ↦ rw (lt-ltb r B.rules k) ((f r k).still o v l (still_free o l e)) | inr k ↦ rw (le-ltb r B.rules k) ])
+          rw (← same) (elim (cases_lt r B.rules) [ inl k ↦ rw (lt-ltb r B.rules k) ((f r k).still o v l (still_free o l e)) | inr k ↦ rw (le-ltb r B.rules k) ])
       still (learnt_rule h) o v l e =
-          subst (λ z. marks_at B st z (learnt_rule h) o v ≡ false) same (elim (cases_lt h (length st)) [ inl k ↦ rw (lt-ltb h (length st) k) ((g h k).still o v l (still_free o l e)) | inr k ↦ rw (le-ltb h (length st) k) ])
+          rw (← same) (elim (cases_lt h (length st)) [ inl k ↦ rw (lt-ltb h (length st) k) ((g h k).still o v l (still_free o l e)) | inr k ↦ rw (le-ltb h (length st) k) ])

@@ -1,5 +1,5 @@
 -- Steps joined to a search.
-use Rattle.std.proofs.Common.{◌≡◌, ℕ, ◌+◌, ◌<◌, ◌≤◌, true, List, Some, refl, subst, inl, add-one, arith}
+use Rattle.std.proofs.Common.{◌≡◌, ℕ, ◌+◌, ◌<◌, ◌≤◌, true, List, Some, refl, inl, add-one, arith}
 use Rattle.bank.specs.Banks.{Bank}
 use Rattle.search_theory.specs.Trails.{Point, Steps, Full, read}
 use Rattle.search_theory.specs.Searches.{quest, Builds, Fails, Stops}
@@ -20,7 +20,7 @@ module _ (B : Bank) (ps : List ℕ) (a0 a : Point) (n budget : ℕ) (S : Steps (
 
   pub ends_none : (b : Point) → n < budget → Hopeless (quest B ps) a b → Fails (quest B ps) budget a0 (n + 1) b
   ends_none b l h =
-      subst (λ x. Fails (quest B ps) budget a0 (n + 1) x) h.same
+      rw (← h.same)
       (record { before = n; steps = S; last = add-one n; in_budget = omega arith; dead = h.dead; hopeless = inl h.flat })
 
   pub ends_spent : (next : Next) → n ≡ budget → Needs B a.store a.trail (Some next) → Stops (quest B ps) budget a0 n a

@@ -1,5 +1,5 @@
 -- The laws of `Standing`: all that a caller of the search needs to know of it.
-use Rattle.std.proofs.Common.{ℕ, ◌<◌, ◌≤◌, List, [], ◌∷◌, sym, subst}
+use Rattle.std.proofs.Common.{ℕ, ◌<◌, ◌≤◌, List, [], ◌∷◌}
 use Rattle.std.proofs.Math.Logic.{∥∥₁_elim, ∥∥₁_map}
 use Rattle.std.specs.Coded.{×_prop, Unit-prop, le_prop}
 use Rattle.std.proofs.Props.{props}
@@ -29,7 +29,7 @@ store_prop B (c ∷ st) = ×_prop (clause_prop B c) (store_prop B st)
 -- a search may begin, whatever was learnt before, if that is sound
 pub standing_begin : (B : Bank) (ps : List ℕ) (s : Search) → Begun ps s.trail → StoreSound B (store_of s.learnt) → Standing B ps s
 unfolding Standing
-standing_begin B ps s b S = ∣ subst (Reached B ps) (sym (begun_start ps s.trail s.learnt b)) (reached_start B ps (store_of s.learnt) S) ∣₁
+standing_begin B ps s b S = ∣ rw (begun_start ps s.trail s.learnt b) (reached_start B ps (store_of s.learnt) S) ∣₁
 
 -- it came there by steps of the theory
 pub standing_reached : (B : Bank) (ps : List ℕ) (s : Search) → Standing B ps s → ∥ Reached B ps (point_of s) ∥₁
@@ -59,4 +59,4 @@ standing_step B ps s s' S x = ∥∥₁_map S (λ R. reached_more B ps 1 (point_
 
 -- a search from a trail that begins with the picks is the theory's from its start
 pub search_begun : (B : Bank) (ps : List ℕ) (s : Search) (budget n : ℕ) (b : Point) (e : End) → Begun ps s.trail → Searched (quest B ps) budget (point_of s) n b e → Searched (quest B ps) budget (start ps (store_of s.learnt)) n b e
-search_begun B ps s budget n b e h r = subst (λ a. Searched (quest B ps) budget a n b e) (begun_start ps s.trail s.learnt h) r
+search_begun B ps s budget n b e h r = rw (begun_start ps s.trail s.learnt h) at r

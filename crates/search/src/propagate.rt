@@ -1,8 +1,9 @@
 // Propagation: asks the rules about the trail's values.
 // The bank's rules are asked first, then the learnt ones, the newest first; the first that is dead or marks an open option counts.
-ghost use Rattle.std.specs.Prelude.{◌≡◌, ℕ, ◌<◌, ◌≤◌, true, length, take};
+ghost use Rattle.std.specs.Prelude.{◌≡◌, ℕ, ◌≤◌, true, length, take};
 ghost use Rattle.builds.specs.Values.{up_to};
 ghost use Rattle.builds.specs.Answers.{answer_of};
+ghost use Rattle.bank.specs.Marking.{Ready};
 ghost use Rattle.clauses.specs.Clause.{clause_meets};
 ghost use Rattle.clauses.specs.Literals.{numbers, within};
 ghost use Rattle.trail.specs.View.{trail_of, store_of};
@@ -35,6 +36,10 @@ fn first_mark(values: &[u8], marks: &[u8]) -> Option<Mark>
     requires { length marks.now ≡ length values.now }
     ensures { Marked values.now marks.now result }
 {
+    // most rules mark nothing new, which is told sixteen options at a time
+    if values == marks {
+        return None;
+    }
     let option = values
         .iter()
         .zip(marks)
@@ -47,17 +52,16 @@ fn first_mark(values: &[u8], marks: &[u8]) -> Option<Mark>
 
 // What a rule of the bank asks for. The rule and the tables are whole, so it is not refused.
 fn ask<B: RuleBank>(b: &B, rule: usize, values: &[u8]) -> Option<Finding>
-    requires known { rule < (B.meaning b.now).rules }
-    requires long { 128 ≤ length values.now }
-    requires small { up_to 2 (take (B.meaning b.now).width values.now) ≡ true }
+    requires { Ready (B.meaning b.now).width (B.meaning b.now).rules rule values.now 128 }
     ensures { Hears (B.meaning b.now).width (take (B.meaning b.now).width values.now) ((B.meaning b.now).says rule (take (B.meaning b.now).width values.now)) result }
 {
     let width = b.width();
     let mut marks = [2u8; 128];
     match b.mark(rule, values, &mut marks) {
-        Err(_) => None,
         Ok(Answer::Dead) => Some(Finding::Dead),
         Ok(Answer::Live) => first_mark(&values[..width], &marks[..width]).map(Finding::Marks),
+        // no shared function for this (a): it would stand in bank, be public and demand what was tested, and no public call demands anything
+        Err(_) => unreachable(),
     }
 }
 
@@ -70,7 +74,7 @@ fn ask_learnt(literals: &[Literal], values: &[u8]) -> Option<Finding>
         Left::Nothing => Some(Finding::Dead),
         Left::One(literal) => Some(Finding::Marks(Mark {
             option: literal.option(),
-            value: literal.wanted() == 1,
+            value: literal.wanted(),
         })),
         Left::Free => None,
     }
@@ -82,7 +86,7 @@ impl Search {
         ensures { AllInside (B.meaning b.now).width (store_of self.now.learnt) → Finds (B.meaning b.now) (store_of self.now.learnt) (trail_of self.now.trail.entries) result }
     {
         let values = self.trail.values();
-        // by number, no plainer otherwise: a bank's rules and the learnt clauses stand in no slice, and the number is what is answered
+        // loops with an early return: `find_map` over the numbers was tried and the proof did not close (c), since std tells no first answer of it, as it does of `find`
         for rule in 0..b.count() {
             if let Some(finding) = ask(b, rule, &values) {
                 return Some((finding, Source::Bank(rule)));

@@ -1,4 +1,5 @@
 // The search: step by step, until all options are valued and no rule is dead, no decision is left to take back, or the budget is spent.
+// Clauses here and in session say what a trail reads by `read width (trail_of ..)`, whole: the width is the bank's and the trail each search's, so that a name for both would hide one.
 ghost use Rattle.std.specs.Prelude.{ℕ, List};
 ghost use Rattle.search_theory.specs.Trails.{read};
 ghost use Rattle.search_theory.specs.Searches.{quest, Search as Searched};

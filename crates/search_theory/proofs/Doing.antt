@@ -1,46 +1,19 @@
 -- What each call does, by the outcome of its tests.
-use Rattle.std.proofs.Common.{◌≡◌, ℕ, zero, suc, ◌+◌, ◌-◌, ◌^◌, ◌<◌, ◌≤◌, true, false, List, [], length, get_or, set, refl, arith}
-use Rattle.std.proofs.lemmas.Bool.{le-leb, lt-leb, lt-ltb, le-ltb}
-use Rattle.std.proofs.lemmas.List.{get_or_default}
+use Rattle.std.proofs.Common.{◌≡◌, ℕ, ◌+◌, ◌-◌, ◌^◌, ◌<◌, ◌≤◌, true, false, set, refl}
+use Rattle.std.proofs.lemmas.Bool.{le-leb, lt-leb, le-ltb}
 use Rattle.builds.specs.Builds.{Build, bit}
 use Rattle.bank.specs.Banks.{Bank}
-use Rattle.search_theory.specs.Orders.{is_free, unpicked}
+use Rattle.search_theory.specs.Orders.{unpicked}
 use Rattle.search_theory.specs.Trails.{Point, start}
 use Rattle.search_theory.specs.Searches.{quest, End, built, nothing, out, Builds, Fails, Stops, Search}
-use Rattle.search_theory.specs.Calls.{pick, release, complete, continue, forced, forget, refused, done, no_build, spent, only, State, said, goes_on, against, forced_second, Simple, Does}
-
-free_number : (x : ℕ) → 2 ≤ x → is_free x ≡ true
-free_number zero h = absurd (omega arith)
-free_number (suc zero) h = absurd (omega arith)
-free_number (suc (suc n)) h = refl
-
-taken_number : (x : ℕ) → x < 2 → is_free x ≡ false
-taken_number zero h = refl
-taken_number (suc zero) h = refl
-taken_number (suc (suc n)) h = absurd (omega arith)
-
--- what a read of the picks tells
-pub unpicked_at : (ps : List ℕ) (o : ℕ) → o < length ps → 2 ≤ get_or ps o 0 → unpicked ps o ≡ true
-unpicked_at ps o l h = free_number (get_or ps o 2) (rw (get_or_default ps o 2 0 l) h)
-
-pub picked_at : (ps : List ℕ) (o : ℕ) → o < length ps → get_or ps o 0 < 2 → unpicked ps o ≡ false
-picked_at ps o l h = taken_number (get_or ps o 2) (rw (get_or_default ps o 2 0 l) h)
+use Rattle.search_theory.specs.Calls.{pick, release, complete, continue, forced, refused, done, no_build, spent, only, State, said, goes_on, against, forced_second, Simple, Does}
 
 module _ (B : Bank) (s : State) where
-  pub pick_outside : (o v : ℕ) → B.width ≤ o → Does B s (pick o v) (refused 1) s
-  pick_outside o v h = rw (le-leb B.width o h) (refl, refl)
-
-  pub pick_value : (o v : ℕ) → o < B.width → 2 ≤ v → Does B s (pick o v) (refused 2) s
-  pick_value o v h k = rw (lt-leb B.width o h, le-leb 2 v k) (refl, refl)
-
   pub pick_taken : (o v : ℕ) → o < B.width → v < 2 → unpicked s.picks o ≡ false → Does B s (pick o v) (refused 3) s
   pick_taken o v h k f = rw (lt-leb B.width o h, lt-leb 2 v k, f) (refl, refl)
 
   pub pick_done : (s' : State) (o v : ℕ) → o < B.width → v < 2 → unpicked s.picks o ≡ true → Simple s s' done (set s.picks o v) s.point.store → Does B s (pick o v) done s'
   pick_done s' o v h k f c = rw (lt-leb B.width o h, lt-leb 2 v k, f) c
-
-  pub release_outside : (o : ℕ) → B.width ≤ o → Does B s (release o) (refused 1) s
-  release_outside o h = rw (le-leb B.width o h) (refl, refl)
 
   pub release_open : (o : ℕ) → o < B.width → unpicked s.picks o ≡ true → Does B s (release o) (refused 4) s
   release_open o h f = rw (lt-leb B.width o h, f) (refl, refl)
@@ -48,34 +21,13 @@ module _ (B : Bank) (s : State) where
   pub release_done : (s' : State) (o : ℕ) → o < B.width → unpicked s.picks o ≡ false → Simple s s' done (set s.picks o 2) s.point.store → Does B s (release o) done s'
   release_done s' o h f c = rw (lt-leb B.width o h, f) c
 
-  pub complete_budget : (budget room : ℕ) → 2 ^ 62 < budget → Does B s (complete budget room) (refused 5) s
-  complete_budget budget room h = rw (lt-ltb (2 ^ 62) budget h) (refl, refl)
-
-  pub complete_room : (budget room : ℕ) → budget ≤ 2 ^ 62 → room < B.width → Does B s (complete budget room) (refused 8) s
-  complete_room budget room h k = rw (le-ltb (2 ^ 62) budget h, lt-leb B.width room k) (refl, refl)
-
   pub complete_done : (s' : State) (budget room n : ℕ) (e : End) → budget ≤ 2 ^ 62 → B.width ≤ room →
       Search (quest B s.picks) budget (start s.picks s.point.store) n s'.point e → s'.picks ≡ s.picks → s'.searching ≡ goes_on e → Does B s (complete budget room) (said e n) s'
   complete_done s' budget room n e h k r p q = rw (le-ltb (2 ^ 62) budget h, le-leb B.width room k) (record { steps = n; end = e; search = r; reply = refl; picks = p; searching = q })
 
-  pub continue_budget : (budget room : ℕ) → 2 ^ 62 < budget → Does B s (continue budget room) (refused 5) s
-  continue_budget budget room h = rw (lt-ltb (2 ^ 62) budget h) (refl, refl)
-
-  pub continue_closed : (budget room : ℕ) → budget ≤ 2 ^ 62 → s.searching ≡ false → Does B s (continue budget room) (refused 6) s
-  continue_closed budget room h f = rw (le-ltb (2 ^ 62) budget h, f) (refl, refl)
-
-  pub continue_room : (budget room : ℕ) → budget ≤ 2 ^ 62 → s.searching ≡ true → room < B.width → Does B s (continue budget room) (refused 8) s
-  continue_room budget room h f k = rw (le-ltb (2 ^ 62) budget h, f, lt-leb B.width room k) (refl, refl)
-
   pub continue_done : (s' : State) (budget room n : ℕ) (e : End) → budget ≤ 2 ^ 62 → s.searching ≡ true → B.width ≤ room →
       Search (quest B s.picks) budget s.point n s'.point e → s'.picks ≡ s.picks → s'.searching ≡ goes_on e → Does B s (continue budget room) (said e n) s'
   continue_done s' budget room n e h f k r p q = rw (le-ltb (2 ^ 62) budget h, f, le-leb B.width room k) (record { steps = n; end = e; search = r; reply = refl; picks = p; searching = q })
-
-  pub forced_outside : (o budget : ℕ) → B.width ≤ o → Does B s (forced o budget) (refused 1) s
-  forced_outside o budget h = rw (le-leb B.width o h) (refl, refl)
-
-  pub forced_budget : (o budget : ℕ) → o < B.width → 2 ^ 62 < budget → Does B s (forced o budget) (refused 5) s
-  forced_budget o budget h k = rw (lt-leb B.width o h, lt-ltb (2 ^ 62) budget k) (refl, refl)
 
   -- the first search found none, or is spent
   pub forced_none : (s' : State) (o budget n : ℕ) → o < B.width → budget ≤ 2 ^ 62 →
@@ -98,6 +50,3 @@ module _ (B : Bank) (s : State) where
       s'.picks ≡ s.picks → s'.searching ≡ false → Does B s (forced o budget) (forced_second e β o (n + m)) s'
   forced_twice s' o budget n m β mid e h k f r r' p q =
       rw (lt-leb B.width o h, le-ltb (2 ^ 62) budget k) (record { steps = n; mid = mid; end = built β; search = r; then = rw f (record { steps = m; end = e; search = r'; reply = refl }); picks = p; searching = q })
-
-  pub forget_done : (s' : State) → Simple s s' done s.picks [] → Does B s forget done s'
-  forget_done s' c = c

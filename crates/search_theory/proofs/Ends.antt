@@ -1,14 +1,13 @@
 -- What a search that ends, and a call that finishes, show of the builds that fulfil the order.
-use Rattle.std.proofs.Common.{◌≡◌, ℕ, ◌+◌, ◌-◌, ◌^◌, ◌<◌, Bool, true, false, not, ltb, leb, ◌⊎◌, List, length, get_or, set, Some, None, Option, sym, refl, ap, ◌∙◌, subst, inl, inr, true≢false, arith}
-use mathlib.Core.Bool.{false≢true}
-use Rattle.std.proofs.lemmas.Bool.{and_from}
+use Rattle.std.proofs.Common.{◌≡◌, ℕ, ◌+◌, ◌-◌, ◌<◌, Bool, true, false, not, ◌⊎◌, List, length, get_or, Some, None, sym, ap, ◌∙◌, inl, inr, arith}
+use Rattle.std.proofs.lemmas.Bool.{and_from, cases_Bool}
 use Rattle.builds.specs.Builds.{Build, bit, First, HasNoBuild}
-use Rattle.builds.specs.Values.{num, fits}
+use Rattle.builds.specs.Values.{fits}
 use Rattle.bank.specs.Banks.{Bank, Duties, meets_all}
 use Rattle.search_theory.specs.Orders.{fulfils, Fulfils, unpicked, AllGive, TwoDiffer}
 use Rattle.search_theory.specs.Trails.{Point, start}
 use Rattle.search_theory.specs.Searches.{quest, End, built, nothing, out, Builds, Fails, Search}
-use Rattle.search_theory.specs.Calls.{Call, pick, release, complete, continue, forced, forget, Reply, refused, State, refusal, said, Completes, against, forced_second, Second, AfterBuild, AfterFirst, Forces, Refuses, Does}
+use Rattle.search_theory.specs.Calls.{Call, complete, continue, forced, Reply, State, refusal, said, Completes, against, forced_second, Forces, Performs, Does}
 use Rattle.search_theory.specs.Law.{Question, whole, about, Answer, is_build, is_none, is_only, is_open, asks, finished, answer_to, Right}
 use Rattle.search_theory.specs.Held.{Reached, SessionOk}
 use Rattle.search_theory.proofs.Sound.{full_first}
@@ -16,57 +15,52 @@ use Rattle.search_theory.proofs.Picks.{fits_bit, fits_own, fits_more, pick_there
 use Rattle.search_theory.proofs.Banks.{dead_hopeless, read_wanted}
 use Rattle.search_theory.proofs.Dense.{reached_held, reached_more}
 use Rattle.search_theory.proofs.Answering.{Shows, shows_right, shows_answer}
-use Rattle.search_theory.proofs.Kept.{kept_search, kept_start, kept_second, continue_may, forced_may}
+use Rattle.search_theory.proofs.Kept.{no, yes, called, hopeless, stopped, once, twice, ways, kept_search, kept_start, kept_second, continue_may, forced_may}
 
 -- a search that ends with a build ends with the first
 pub built_first : (B : Bank) → Duties B → (ps : List ℕ) (budget : ℕ) (a : Point) (n : ℕ) (b : Point) (β : Build) → Reached B ps a → Builds (quest B ps) budget a n b β → First B.width (fulfils B ps) β
 built_first B L ps budget a n b β R r =
     let H = reached_held B ps b (reached_more B ps n a b R r.steps) in
-    subst (First B.width (fulfils B ps)) (sym r.reads) (full_first (quest B ps) b H.sound r.full (read_wanted B L ps b H.sound r.full r.calm))
+    rw r.reads (full_first (quest B ps) b H.sound r.full (read_wanted B L ps b H.sound r.full r.calm))
 
 -- one that ends with none ends so rightly
 pub fails_none : (B : Bank) → Duties B → (ps : List ℕ) (budget : ℕ) (a : Point) (n : ℕ) (b : Point) → Reached B ps a → Fails (quest B ps) budget a n b → HasNoBuild B.width (fulfils B ps)
-fails_none B L ps budget a n b R r = go r.hopeless
-  where
-    go : (b.depth ≡ 0) ⊎ HasNoBuild B.width (fulfils B ps) → HasNoBuild B.width (fulfils B ps)
-    go (inl z) = let H = reached_held B ps b (reached_more B ps r.before a b R r.steps) in dead_hopeless B L ps b H.store H.sound r.dead z
-    go (inr h) = h
+fails_none B L ps budget a n b R r = elim r.hopeless [
+  | inl z ↦ (let H = reached_held B ps b (reached_more B ps r.before a b R r.steps) in dead_hopeless B L ps b H.store H.sound r.dead z)
+  | inr h ↦ h
+]
 
 -- a finished completion
 pub completes_shows : (B : Bank) → Duties B → (s : State) (budget : ℕ) (p : Point) (r : Reply) (s' : State) → Reached B s.picks p → Completes B s budget p r s' → (a : Answer) → finished r ≡ Some a → Shows B s.picks whole a
 completes_shows B L s budget p r s' R c a f = go c.end c.search c.reply
   where
     go : (e : End) → Search (quest B s.picks) budget p c.steps s'.point e → r ≡ said e c.steps → Shows B s.picks whole a
-    go (built β) w e =
-        let q : is_build β ≡ a = cc in
-        subst (Shows B s.picks whole) q (built_first B L s.picks budget p c.steps s'.point β R w)
-    go nothing w e =
-        let q : is_none ≡ a = cc in
-        subst (Shows B s.picks whole) q (fails_none B L s.picks budget p c.steps s'.point R w)
-    go out w e = absurd (true≢false (cc))
+    go (built β) w e = let q : a ≡ is_build β = cc in rw q (built_first B L s.picks budget p c.steps s'.point β R w)
+    go nothing w e = let q : a ≡ is_none = cc in rw q (fails_none B L s.picks budget p c.steps s'.point R w)
+    go out w e = cc
 
 bit_cases : (b c : Bool) → (b ≡ c) ⊎ (b ≡ not c)
-bit_cases true true = inl refl
-bit_cases true false = inr refl
-bit_cases false true = inr refl
-bit_cases false false = inl refl
+bit_cases b c = grind arith
 
 -- no build with the other value: all have this one
 second_none : (B : Bank) (ps : List ℕ) (o : ℕ) (β : Build) → Fulfils B ps β → HasNoBuild B.width (fulfils B (against ps o β)) → AllGive B ps o (bit β o)
-second_none B ps o β m n = record { one = β; there = m; all = all }
-  where
-    all : (γ : Build) → Fulfils B ps γ → bit γ o ≡ bit β o
-    all γ w = go (bit_cases (bit γ o) (bit β o))
-      where
-        go : (bit γ o ≡ bit β o) ⊎ (bit γ o ≡ not (bit β o)) → bit γ o ≡ bit β o
-        go (inl e) = e
-        go (inr e) =
-            let f : fits (against ps o β) γ ≡ true = subst (λ v. fits (set ps o (num v)) γ ≡ true) e (fits_own ps γ o (fulfils_fits B ps γ w)) in
-            absurd (false≢true (sym (n γ w.whole) ∙ and_from (meets_all B γ) (fits (against ps o β) γ) (fulfils_meets B ps γ w) f))
+second_none B ps o β m n = record {
+  one = β;
+  there = m;
+  all = λ γ w. elim (bit_cases (bit γ o) (bit β o)) [
+    | inl e ↦ e
+    | inr e ↦ (
+        let f : fits (against ps o β) γ ≡ true = rw e at (fits_own ps γ o (fulfils_fits B ps γ w)) in
+        cc (n γ w.whole, and_from (meets_all B γ) (fits (against ps o β) γ) (fulfils_meets B ps γ w) f))
+  ];
+}
 
 -- a build with the other value: two differ
 second_some : (B : Bank) (ps : List ℕ) (o : ℕ) (β γ : Build) → o < length ps → o < B.width → unpicked ps o ≡ true → Fulfils B ps β → Fulfils B (against ps o β) γ → TwoDiffer B ps o
-second_some B ps o β γ l m f b g = go (bit β o) refl
+second_some B ps o β γ l m f b g = elim (cases_Bool (bit β o)) [
+  | inr e ↦ record { zero_build = β; one_build = γ; has_zero = b; has_one = there; at_zero = e; at_one = more.1 ∙ ap not e }
+  | inl e ↦ record { zero_build = γ; one_build = β; has_zero = there; has_one = b; at_zero = more.1 ∙ ap not e; at_one = e }
+]
   where
     more : (fits ps γ ≡ true) × (bit γ o ≡ not (bit β o))
     more = fits_more ps γ o (not (bit β o)) l (omega (arith, g.whole)) f (fulfils_fits B (against ps o β) γ g)
@@ -74,83 +68,49 @@ second_some B ps o β γ l m f b g = go (bit β o) refl
     there : Fulfils B ps γ
     there = record { whole = g.whole; met = and_from (meets_all B γ) (fits ps γ) (fulfils_meets B (against ps o β) γ g) more.0 }
 
-    go : (v : Bool) → bit β o ≡ v → TwoDiffer B ps o
-    go false e = record { zero_build = β; one_build = γ; has_zero = b; has_one = there; at_zero = e; at_one = more.1 ∙ ap not e }
-    go true e = record { zero_build = γ; one_build = β; has_zero = there; has_one = b; at_zero = more.1 ∙ ap not e; at_one = e }
-
 -- a picked option: all have the pick
 picked_all : (B : Bank) (ps : List ℕ) (o : ℕ) (β : Build) → o < B.width → unpicked ps o ≡ false → Fulfils B ps β → AllGive B ps o (bit β o)
-picked_all B ps o β l f m = record { one = β; there = m; all = λ γ w. has γ w ∙ sym (has β m) }
-  where
-    has : (γ : Build) (w : Fulfils B ps γ) → bit γ o ≡ (pick_there (get_or ps o 2) f).0
-    has γ w = fits_bit ps γ o (pick_there (get_or ps o 2) f).0 (omega (arith, w.whole)) (fulfils_fits B ps γ w) (pick_there (get_or ps o 2) f).1
+picked_all B ps o β l f m =
+    let p = pick_there (get_or ps o 2) f in
+    let has : (γ : Build) → Fulfils B ps γ → bit γ o ≡ p.0 = λ γ w. fits_bit ps γ o p.0 (omega (arith, w.whole)) (fulfils_fits B ps γ w) p.1 in
+    record { one = β; there = m; all = λ γ w. has γ w ∙ sym (has β m) }
 
 -- a finished forced
 pub forces_shows : (B : Bank) → Duties B → (s : State) (o budget : ℕ) (r : Reply) (s' : State) → o < B.width → SessionOk B s → Forces B s o budget r s' → (a : Answer) → finished r ≡ Some a → Shows B s.picks (about o) a
-forces_shows B L s o budget r s' l ok c a f = first c.end c.search c.then
+forces_shows B L s o budget r s' l ok c a f =
+    let p = start s.picks s.point.store in
+    let R = kept_start B s ok in
+    elim (ways B s s' o budget r c) [
+      | hopeless n w q ↦ (let z : a ≡ is_none = cc in rw z (fails_none B L s.picks budget p n s'.point R w))
+      | stopped n w q ↦ cc
+      | once n β w u q ↦ (let z : a ≡ is_only (bit β o) = cc in rw z (picked_all B s.picks o β l u (built_first B L s.picks budget p n s'.point β R w).passes))
+      | twice n m β mid e w u x q ↦
+          let R' = kept_second B s.picks (against s.picks o β) mid (kept_search B s.picks budget p n mid (built β) R w) in
+          second (budget - n) (n + m) m β (start (against s.picks o β) mid.store) e R' u (built_first B L s.picks budget p n mid β R w).passes x q
+    ]
   where
-    R : Reached B s.picks (start s.picks s.point.store)
-    R = kept_start B s ok
-
-    R' : (β : Build) → Reached B (against s.picks o β) (start (against s.picks o β) c.mid.store)
-    R' β = kept_second B s.picks (against s.picks o β) c.mid (kept_search B s.picks budget (start s.picks s.point.store) c.steps c.mid c.end R c.search)
-
-    second : (β : Build) (x : Second B s o budget c.steps β c.mid r s'.point) (e : End) → unpicked s.picks o ≡ true → Fulfils B s.picks β → Search (quest B (against s.picks o β)) (budget - c.steps) (start (against s.picks o β) c.mid.store) x.steps s'.point e → r ≡ forced_second e β o (c.steps + x.steps) → Shows B s.picks (about o) a
-    second β x (built γ) free m w e =
-        let q : is_open ≡ a = cc in
-        let p : o < length s.picks = omega (arith, L.narrow, ok.picks.long) in
-        subst (Shows B s.picks (about o)) q
-        (second_some B s.picks o β γ p l free m (built_first B L (against s.picks o β) (budget - c.steps) (start (against s.picks o β) c.mid.store) x.steps s'.point γ (R' β) w).passes)
-    second β x nothing free m w e =
-        let q : is_only (bit β o) ≡ a = cc in
-        subst (Shows B s.picks (about o)) q (second_none B s.picks o β m (fails_none B L (against s.picks o β) (budget - c.steps) (start (against s.picks o β) c.mid.store) x.steps s'.point (R' β) w))
-    second β x out free m w e = absurd (true≢false (cc))
-
-    then_build : (β : Build) (v : Bool) → unpicked s.picks o ≡ v → Fulfils B s.picks β → AfterBuild B s o budget c.steps c.mid r s'.point β v → Shows B s.picks (about o) a
-    then_build β true free m x = second β x x.end free m x.search x.reply
-    then_build β false free m e =
-        let g = e.0 in
-        let q : is_only (bit β o) ≡ a = cc in
-        subst (Shows B s.picks (about o)) q (picked_all B s.picks o β l free m)
-
-    first : (e : End) → Search (quest B s.picks) budget (start s.picks s.point.store) c.steps c.mid e → AfterFirst B s o budget c.steps c.mid r s'.point e → Shows B s.picks (about o) a
-    first (built β) w t =
-        then_build β (unpicked s.picks o) refl (built_first B L s.picks budget (start s.picks s.point.store) c.steps c.mid β R w).passes t
-    first nothing w e =
-        let g = e.0 in
-        let q : is_none ≡ a = cc in
-        subst (Shows B s.picks (about o)) q (fails_none B L s.picks budget (start s.picks s.point.store) c.steps c.mid R w)
-    first out w e = let g = e.0 in absurd (true≢false (cc))
+    second : (left total m : ℕ) (β : Build) (p : Point) (e : End) → Reached B (against s.picks o β) p → unpicked s.picks o ≡ true → Fulfils B s.picks β → Search (quest B (against s.picks o β)) left p m s'.point e → r ≡ forced_second e β o total → Shows B s.picks (about o) a
+    second left total m β p (built γ) R' free w x q =
+        let z : a ≡ is_open = cc in
+        rw z (second_some B s.picks o β γ (omega (arith, L.narrow, ok.picks.long)) l free w (built_first B L (against s.picks o β) left p m s'.point γ R' x).passes)
+    second left total m β p nothing R' free w x q = let z : a ≡ is_only (bit β o) = cc in rw z (second_none B s.picks o β w (fails_none B L (against s.picks o β) left p m s'.point R' x))
+    second left total m β p out R' free w x q = cc
 
 -- a finished answer shows what the session's picks ask for
+performs_shows : (B : Bank) → Duties B → (s s' : State) (c : Call) (r : Reply) → SessionOk B s → refusal B.width s c ≡ None → Performs B s c r s' → (q : Question) (a : Answer) → asks c ≡ Some q → finished r ≡ Some a → Shows B s.picks q a
+performs_shows B L s s' (complete budget room) r ok x w q a e f =
+    let is : q ≡ whole = cc in
+    rw is (completes_shows B L s budget (start s.picks s.point.store) r s' (kept_start B s ok) w a f)
+performs_shows B L s s' (continue budget room) r ok x w q a e f =
+    let is : q ≡ whole = cc in
+    rw is (completes_shows B L s budget s.point r s' (ok.reached (continue_may B.width s budget room x)) w a f)
+performs_shows B L s s' (forced o budget) r ok x w q a e f =
+    let is : q ≡ about o = cc in
+    rw is (forces_shows B L s o budget r s' (forced_may B.width s o budget x) ok w a f)
+performs_shows B L s s' _ r ok x w q a e f = cc
+
 pub does_shows : (B : Bank) → Duties B → (s s' : State) (c : Call) (r : Reply) → SessionOk B s → Does B s c r s' → (q : Question) (a : Answer) → asks c ≡ Some q → finished r ≡ Some a → Shows B s.picks q a
-does_shows B L s s' (pick o v) r ok D q a e f = absurd (true≢false (cc))
-does_shows B L s s' (release o) r ok D q a e f = absurd (true≢false (cc))
-does_shows B L s s' forget r ok D q a e f = absurd (true≢false (cc))
-does_shows B L s s' (complete budget room) r ok D q a e f = go (refusal B.width s (complete budget room)) D
-  where
-    is : whole ≡ q
-    is = cc
-
-    go : (x : Option ℕ) → Refuses x B s (complete budget room) r s' → Shows B s.picks q a
-    go (Some n) w = let g : r ≡ refused n = w.0 in absurd (true≢false (cc))
-    go None w = subst (λ x. Shows B s.picks x a) is (completes_shows B L s budget (start s.picks s.point.store) r s' (kept_start B s ok) w a f)
-does_shows B L s s' (continue budget room) r ok D q a e f = go (refusal B.width s (continue budget room)) refl D
-  where
-    is : whole ≡ q
-    is = cc
-
-    go : (x : Option ℕ) → refusal B.width s (continue budget room) ≡ x → Refuses x B s (continue budget room) r s' → Shows B s.picks q a
-    go (Some n) y w = let g : r ≡ refused n = w.0 in absurd (true≢false (cc))
-    go None y w = subst (λ x. Shows B s.picks x a) is (completes_shows B L s budget s.point r s' (ok.reached (continue_may (ltb (2 ^ 62) budget) s.searching (leb B.width room) y)) w a f)
-does_shows B L s s' (forced o budget) r ok D q a e f = go (refusal B.width s (forced o budget)) refl D
-  where
-    is : about o ≡ q
-    is = cc
-
-    go : (x : Option ℕ) → refusal B.width s (forced o budget) ≡ x → Refuses x B s (forced o budget) r s' → Shows B s.picks q a
-    go (Some n) y w = let g : r ≡ refused n = w.0 in absurd (true≢false (cc))
-    go None y w = subst (λ x. Shows B s.picks x a) is (forces_shows B L s o budget r s' (forced_may B.width o (ltb (2 ^ 62) budget) y) ok w a f)
+does_shows B L s s' c r ok D q a e f = elim (called B s s' c r D) [ no n x g h ↦ cc | yes x w ↦ performs_shows B L s s' c r ok x w q a e f ]
 
 -- and is the answer to what was asked
 pub does_right : (B : Bank) → Duties B → (s s' : State) (c : Call) (r : Reply) → SessionOk B s → Does B s c r s' → (q : Question) (a : Answer) → asks c ≡ Some q → finished r ≡ Some a → (a ≡ answer_to B s.picks q) × Right B s.picks q a

@@ -1,20 +1,16 @@
 -- The law speaks of something: a bank with its duties, and a run of a new session that makes a decision and is spent, goes on with a conflict and finds a build.
-use Rattle.std.proofs.Common.{◌≡◌, ℕ, zero, suc, ◌<◌, ◌≤◌, Bool, true, false, ltb, List, [], ◌∷◌, length, get_or, refl, true≢false, arith}
-use mathlib.Core.Bool.{false≢true}
-use Rattle.std.proofs.lemmas.Bool.{and_right, le-ltb}
-use Rattle.builds.specs.Builds.{Build, bit, some_build, First}
-use Rattle.builds.specs.Values.{num, fits}
+use Rattle.std.proofs.Common.{◌≡◌, ℕ, zero, suc, ◌<◌, Bool, true, false, List, [], ◌∷◌, length, get_or, refl, arith}
+use Rattle.std.proofs.lemmas.Bool.{le-ltb}
+use Rattle.builds.specs.Builds.{Build, bit, some_build}
+use Rattle.builds.specs.Values.{fits}
 use Rattle.builds.specs.Answers.{Said, dead, live, answer_of}
-use Rattle.builds.proofs.Tables.{up_to_at}
 use Rattle.bank.specs.Banks.{Bank, Duties, Honest, Lives, meets_first}
-use Rattle.search_theory.specs.Orders.{fulfils, Fulfils}
 use Rattle.search_theory.specs.Trails.{Entry, unset, decided, implied, Source, bank_rule, learnt_rule, Trail, Point, Step, decide, back, Steps, start, read_from, Full}
 use Rattle.search_theory.specs.Searches.{any_below, values_from, quest, built, out}
 use Rattle.search_theory.specs.Calls.{complete, continue, build, spent, State, Does}
-use Rattle.search_theory.specs.Runs.{calls, Run, no_picks, in_force}
-use Rattle.search_theory.specs.Law.{whole, is_build, BuiltRun}
+use Rattle.search_theory.specs.Runs.{Run, no_picks}
+use Rattle.search_theory.specs.Law.{BuiltRun}
 use Rattle.search_theory.proofs.Picks.{fulfils_meets}
-use Rattle.search_theory.proofs.Law.{answers_right}
 use Rattle.search_theory.proofs.Doing.{complete_done, continue_done}
 
 -- what the rule says where its option has this value
@@ -28,45 +24,20 @@ abbrev pub B : Bank
 B = record { width = 1; rules = 1; meets = λ r β. bit β 0; says = λ r vs. say (get_or vs 0 2) }
 
 left_out : (β : Build) → length β ≡ 1 → fits (0 ∷ []) β ≡ true → bit β 0 ≡ false
-left_out [] l f = absurd (omega arith)
-left_out (true ∷ β) l f = absurd (false≢true f)
-left_out (false ∷ β) l f = refl
+left_out β l f = grind arith
 
 lives_one : Lives 1 (λ β. bit β 0) (1 ∷ []) (1 ∷ [])
-lives_one = record { long = refl; small = small; kept = λ o l k. refl; forced = forced; whole = λ u. refl }
-  where
-    small : (o : ℕ) → o < 1 → get_or (1 ∷ []) o 0 ≤ 2
-    small zero l = omega arith
-    small (suc o) l = absurd (omega arith)
-
-    forced : (o : ℕ) (x : Bool) (β : Build) → o < 1 → get_or (1 ∷ []) o 0 ≡ num x → length β ≡ 1 → fits (1 ∷ []) β ≡ true → bit β 0 ≡ true → bit β o ≡ x
-    forced zero true β l e n f m = m
-    forced zero false β l e n f m = absurd (omega arith)
-    forced (suc o) x β l e n f m = absurd (omega arith)
+lives_one = record { long = refl; small = λ o l. grind arith; kept = λ o l k. refl; forced = λ o x β l e n f m. grind arith; whole = λ u. refl }
 
 lives_two : (n : ℕ) → Lives 1 (λ β. bit β 0) (suc (suc n) ∷ []) (2 ∷ [])
-lives_two n = record { long = refl; small = small; kept = kept; forced = forced; whole = λ u. absurd (let h : suc (suc n) ≤ 1 = up_to_at 1 (suc (suc n) ∷ []) u 0 (omega arith) in omega arith) }
-  where
-    small : (o : ℕ) → o < 1 → get_or (2 ∷ []) o 0 ≤ 2
-    small zero l = omega arith
-    small (suc o) l = absurd (omega arith)
-
-    kept : (o : ℕ) → o < 1 → get_or (suc (suc n) ∷ []) o 0 < 2 → get_or (2 ∷ []) o 0 ≡ get_or (suc (suc n) ∷ []) o 0
-    kept zero l k = absurd (omega arith)
-    kept (suc o) l k = absurd (omega arith)
-
-    forced : (o : ℕ) (x : Bool) (β : Build) → o < 1 → get_or (2 ∷ []) o 0 ≡ num x → length β ≡ 1 → fits (suc (suc n) ∷ []) β ≡ true → bit β 0 ≡ true → bit β o ≡ x
-    forced zero true β l e k f m = absurd (omega arith)
-    forced zero false β l e k f m = absurd (omega arith)
-    forced (suc o) x β l e k f m = absurd (omega arith)
+lives_two n = record { long = refl; small = λ o l. grind arith; kept = λ o l k. grind arith; forced = λ o x β l e k f m. grind arith; whole = λ u. grind arith }
 
 honest : (v : List ℕ) → length v ≡ 1 → Honest 1 (λ β. bit β 0) v (say (get_or v 0 2))
 unfolding say
-honest [] l = absurd (omega arith)
 honest (zero ∷ []) l = left_out
 honest (suc zero ∷ []) l = lives_one
 honest (suc (suc n) ∷ []) l = lives_two n
-honest (x ∷ y ∷ vs) l = absurd (omega arith)
+honest _ l = absurd (omega arith)
 
 duties : Duties B
 duties = record { wide = omega arith; narrow = omega arith; few = omega arith; honest = λ r v k l u. honest v l }
@@ -105,14 +76,9 @@ first_step = decide (record {
 })
   where
     still : (s : Source) (o : ℕ) (v : Bool) → o < 1 → (start no_picks []).trail o ≡ unset → (quest B no_picks).marks [] (start no_picks []).trail s o v ≡ false
-    still (bank_rule r) zero true l e = and_right (ltb r 1) false refl
-    still (bank_rule r) zero false l e = and_right (ltb r 1) false refl
+    still (bank_rule r) zero v l e = grind arith
     still (learnt_rule k) zero v l e = rw (le-ltb k 0 (omega arith))
     still s (suc o) v l e = absurd (omega arith)
-
-taken : (β : Build) → Fulfils B no_picks β → bit β 0 ≡ true
-unfolding meets_first
-taken β w = fulfils_meets B no_picks β w
 
 second_step : Step (quest B no_picks) decided_point flipped_point
 unfolding one decided_point flipped_point say any_below values_from meets_first
@@ -125,7 +91,7 @@ second_step = back (record {
   was = 1;
   decision = refl;
   gone = omega arith;
-  forced = λ β w K. taken β w;
+  forced = λ β w K. fulfils_meets B no_picks β w;
   gets = refl;
   rest = λ i l n. absurd (omega arith);
   shallower = refl;
@@ -139,16 +105,12 @@ second_step = back (record {
 
 full : Full 1 flipped_point.trail
 unfolding flipped_point one
-full zero l e = true≢false (cc)
-full (suc i) l e = omega arith
-
-not_full : Full 1 decided_point.trail → (quest B no_picks).dead [] decided_point.trail ≡ true
-unfolding decided_point one say any_below values_from
-not_full f = refl
+full zero l e = cc
+full _ l e = omega arith
 
 spent_first : Does B fresh (complete 1 1) (spent 1) halfway
-unfolding fresh halfway decided_point Steps
-spent_first = complete_done B fresh halfway 1 1 1 out (omega arith) (omega arith) (record { steps = (start no_picks [], refl, first_step); whole = refl; more = not_full }) refl refl
+unfolding fresh halfway decided_point one say any_below values_from Steps
+spent_first = complete_done B fresh halfway 1 1 1 out (omega arith) (omega arith) (record { steps = (start no_picks [], refl, first_step); whole = refl; more = λ f. refl }) refl refl
 
 then_built : Does B halfway (continue 5 1) (build (true ∷ []) 1) ended
 unfolding halfway ended decided_point flipped_point one say any_below values_from read_from some_build answer_of Steps
@@ -169,7 +131,3 @@ witness = record {
   asked = refl;
   built = refl;
 }
-
--- the law at such a run: the build is the first of those that fulfil the order
-pub found_first : (x : BuiltRun) → First x.bank.width (fulfils x.bank (in_force x.bank.width (calls x.earlier))) x.found
-found_first x = ((answers_right x.bank x.duties x.from x.to x.last x.earlier x.new x.run whole (is_build x.found) x.asked x.built).1.first x.found).0 refl

@@ -1,5 +1,5 @@
 -- What complete and resume have done once their search has ended or stopped.
-use Rattle.std.proofs.Common.{◌≡◌, ℕ, Bool, true, false, List, [], ◌∷◌, ◌++◌, map, length, take, drop, Some, None, Ok, Option, sym, refl, ap, ◌∙◌, subst, true≢false, arith}
+use Rattle.std.proofs.Common.{◌≡◌, ℕ, Bool, true, List, ◌++◌, map, length, take, drop, Some, None, Ok, Option, sym, refl, ap, ◌∙◌, arith}
 use Rattle.std.proofs.Math.Logic.{∥∥₁_elim, ∥∥₁_map}
 use Rattle.std.proofs.Props.{props}
 use Rattle.std.proofs.lemmas.List.{take_all, take-append-le, length-map}
@@ -10,8 +10,9 @@ use Rattle.search_theory.specs.Orders.{fulfils}
 use Rattle.search_theory.specs.Trails.{Trail, read}
 use Rattle.search_theory.specs.Searches.{quest, End, Search}
 use Rattle.search_theory.specs.Calls.{Call, Reply, State, said, goes_on, Does}
-use Rattle.search_theory.specs.Held.{Reached, SessionOk}
+use Rattle.search_theory.specs.Held.{SessionOk}
 use Rattle.search_theory.specs.Law.{whole, Answer, is_build, is_none, asks, finished, completed, answer_to}
+use Rattle.search_theory.proofs.Banks.{bits_digits}
 use Rattle.search_theory.proofs.Sound.{length_read}
 use Rattle.search_theory.proofs.Kept.{kept_start, kept_completes}
 use Rattle.search_theory.proofs.Ends.{does_right}
@@ -25,18 +26,13 @@ use Rattle.search.specs.declared.search.Search.{Search as Running}
 use Rattle.search.specs.declared.verdict.Verdict.{Verdict}
 use Rattle.search.specs.declared.verdict.Verdict.TheVariants.{Build as Found, NoBuild, Spent}
 use Rattle.session.specs.Stands.{state}
-use Rattle.session.specs.Completing.{stays_open, filled, completion_reply, Settles, FirstFound}
+use Rattle.session.specs.Completing.{stays_open, filled, completion_reply, FirstFound}
 
 -- the build can be read off the place that it fills
-bits_num : (β : Build) → bits (map num β) ≡ β
-bits_num [] = refl
-bits_num (true ∷ β) = ap (λ x. true ∷ x) (bits_num β)
-bits_num (false ∷ β) = ap (λ x. false ∷ x) (bits_num β)
-
 read_back : (W : ℕ) (β : Build) (old : List ℕ) → length β ≡ W → bits (take W (map num β ++ drop W old)) ≡ β
 read_back W β old l =
     let n : length (map num β) ≡ W = length-map β num ∙ l in
-    ap bits (take-append-le W (map num β) (drop W old) (omega arith) ∙ take_all W (map num β) (omega arith)) ∙ bits_num β
+    ap bits (take-append-le W (map num β) (drop W old) (omega arith) ∙ take_all W (map num β) (omega arith)) ∙ bits_digits β
 
 end_same : (W : ℕ) (v : Verdict) (β : Build) (old new : List ℕ) → length β ≡ W → new ≡ filled W v β old → end_by v (bits (take W new)) ≡ end_by v β
 end_same W Found β old new l e = ap (λ p. end_by Found (bits (take W p))) e ∙ ap (end_by Found) (read_back W β old l)
@@ -52,14 +48,14 @@ open_same Spent β = refl
 -- what the call is to have done, by what the trail reads
 read_reply : (B : Bank) (s s' : State) (c : Call) (v : Verdict) (n : ℕ) (β : Build) (old new : List ℕ) → length β ≡ B.width → new ≡ filled B.width v β old →
     Does B s c (said (end_by v β) n) s' → Does B s c (completion_reply B.width (Ok (record { answer = v; steps = n })) new) s'
-read_reply B s s' c v n β old new l e D = subst (λ x. Does B s c (said x n) s') (sym (end_same B.width v β old new l e)) D
+read_reply B s s' c v n β old new l e D = rw (end_same B.width v β old new l e) D
 
 found_some : (x : Option Build) (β : Build) → is_build β ≡ completed x → x ≡ Some β
 found_some (Some γ) β e = cc
-found_some None β e = absurd (true≢false (cc))
+found_some None β e = cc
 
 found_none : (x : Option Build) → is_none ≡ completed x → x ≡ None
-found_none (Some γ) e = absurd (true≢false (cc))
+found_none (Some γ) e = cc
 found_none None e = refl
 
 answered_whole : (B : Bank) (ps : List ℕ) (a : Answer) → a ≡ answer_to B ps whole → a ≡ completed (first_build B.width (fulfils B ps))
@@ -73,7 +69,7 @@ open_standing B ps s going h e = reached_standing B (map value_number ps) s (∥
 -- a search that begins is open
 pub begun_ok : (B : Bank) (ps : List (Option Bool)) (s : Running) (t : Table) (going : Bool) → Begun (map value_number ps) t → ∥ SessionOk B (state ps s going) ∥₁ → ∥ SessionOk B (state ps (record s { trail = t }) true) ∥₁
 begun_ok B ps s t going b h =
-    ∥∥₁_map h (λ ok. record { picks = ok.picks; learnt = ok.learnt; reached = λ e. subst (Reached B (map value_number ps)) (sym (begun_start (map value_number ps) t s.learnt b)) (kept_start B (state ps s going) ok) })
+    ∥∥₁_map h (λ ok. record { picks = ok.picks; learnt = ok.learnt; reached = λ e. rw (begun_start (map value_number ps) t s.learnt b) (kept_start B (state ps s going) ok) })
 
 -- a search that goes on from where it may leaves the session where it may stand
 pub searched_ok : (B : Bank) (s s' : State) (budget n : ℕ) (e : End) → s.searching ≡ true → Search (quest B s.picks) budget s.point n s'.point e → s'.picks ≡ s.picks → s'.searching ≡ goes_on e → ∥ SessionOk B s ∥₁ → ∥ SessionOk B s' ∥₁
@@ -91,9 +87,9 @@ finds_first B L s s' c Found n β old new q l e h D =
     let b : bits (take B.width new) ≡ β = ap (λ p. bits (take B.width p)) e ∙ read_back B.width β old l in
     let f : first_build B.width (fulfils B s.picks) ≡ Some β =
     named B L s s' c _ (is_build (bits (take B.width new))) q refl h D (Some β) (λ a. found_some _ β (ap is_build (sym b) ∙ a)) in
-    subst (λ x. Settles B.width x Found old new) (sym f) (refl, e)
+    rw f (refl, e)
 finds_first B L s s' c NoBuild n β old new q l e h D =
-    subst (λ x. Settles B.width x NoBuild old new) (sym (named B L s s' c _ is_none q refl h D None (found_none _))) (refl, e)
+    rw (named B L s s' c _ is_none q refl h D None (found_none _)) (refl, e)
 finds_first B L s s' c Spent n β old new q l e h D = e
 
 -- what a performed completion promises, by what its search did

@@ -1,5 +1,5 @@
 -- The picks of a session as the theory's numbers.
-use Rattle.std.proofs.Common.{◌≡◌, ℕ, ◌<◌, Bool, true, false, eqb, is_some, List, map, get_or, set, Some, None, Option, refl}
+use Rattle.std.proofs.Common.{◌≡◌, ℕ, ◌<◌, Bool, true, false, eqb, is_some, List, get_or, set, Some, None, Option, refl}
 use Rattle.std.proofs.lemmas.List.{map-set}
 use Rattle.bank.specs.Banks.{Bank}
 use Rattle.search_theory.specs.Calls.{pick, release, done, Does}

@@ -1,5 +1,5 @@
 -- What forced has done once its searches have ended or stopped.
-use Rattle.std.proofs.Common.{◌≡◌, ℕ, ◌+◌, ◌-◌, ◌^◌, ◌<◌, ◌≤◌, min, Bool, true, false, not, List, set, Some, None, Ok, Option, unwrap_or, sym, refl, ap, ◌∙◌, subst, true≢false, arith}
+use Rattle.std.proofs.Common.{◌≡◌, ℕ, ◌+◌, ◌-◌, ◌^◌, ◌<◌, ◌≤◌, min, Bool, true, false, not, List, set, Some, None, Ok, Option, unwrap_or, sym, refl, ap, ◌∙◌, arith}
 use Rattle.std.proofs.lemmas.Bool.{lt-leb, le-ltb}
 use Rattle.builds.specs.Builds.{Build, bit}
 use Rattle.builds.specs.Values.{num}
@@ -16,6 +16,7 @@ use Rattle.search_theory.proofs.Ends.{does_right}
 use Rattle.search.specs.declared.verdict.Verdict.{Verdict}
 use Rattle.search.specs.declared.verdict.Verdict.TheVariants.{Build as Found, NoBuild as NoneThere, Spent as Out}
 use Rattle.search_theory.specs.Values.{value_number}
+use Rattle.search_theory.proofs.Values.{num_small}
 use Rattle.search.specs.Standing.{end_by}
 use Rattle.session.specs.declared.forcing.Force.{Force}
 use Rattle.session.specs.declared.forcing.Force.TheVariants.{Only, Open, NoBuild, Spent}
@@ -25,21 +26,18 @@ use Rattle.session.specs.Forcing.{second_of, force_reply, force_answer, ForcedFo
 -- the value that the trail shows is that of the build that it reads
 num_same : (a b : Bool) → num a ≡ num b → a ≡ b
 num_same true true h = refl
-num_same true false h = absurd (omega arith)
-num_same false true h = absurd (omega arith)
+num_same true false h = cc
+num_same false true h = cc
 num_same false false h = refl
 
 shown_value : (e : Entry) (p : Option Bool) → value_number p ≡ shown e → unwrap_or p false ≡ value e
 shown_value unset None h = refl
-shown_value unset (Some true) h = absurd (omega arith)
-shown_value unset (Some false) h = absurd (omega arith)
+shown_value unset (Some b) h = absurd (omega (arith, num_small b))
+shown_value (picked v) None h = absurd (omega (arith, num_small v))
 shown_value (picked v) (Some b) h = num_same b v h
-shown_value (picked true) None h = absurd (omega arith)
-shown_value (picked false) None h = absurd (omega arith)
-shown_value (decided j) None h = absurd (omega arith)
+shown_value (decided j) None h = cc
 shown_value (decided j) (Some b) h = num_same b false h
-shown_value (implied true j s) None h = absurd (omega arith)
-shown_value (implied false j s) None h = absurd (omega arith)
+shown_value (implied v j s) None h = absurd (omega (arith, num_small v))
 shown_value (implied v j s) (Some b) h = num_same b v h
 
 pub taken_bit : (W : ℕ) (t : Trail) (o : ℕ) (p : Option Bool) → o < W → value_number p ≡ shown (t o) → unwrap_or p false ≡ bit (read W t) o
@@ -86,7 +84,7 @@ forced_closed B s s' o budget r none D = go (refusal B.width s (forced o budget)
 
     go : (x : Option ℕ) → x ≡ None → Refuses x B s (forced o budget) r s' → Refuses x B (closed s) (forced o budget) r s'
     go None e w = record { steps = w.steps; mid = w.mid; end = w.end; search = w.search; then = after_first w.steps w.mid w.end w.then; picks = w.picks; searching = w.searching }
-    go (Some n) e w = absurd (true≢false (cc))
+    go (Some n) e w = cc
 
 -- a finished answer is right
 pub finds_forced : (B : Bank) → Duties B → (s s' : State) (o budget : ℕ) (f : Force) (n : ℕ) → o < B.width → budget ≤ 2 ^ 62 → ∥ SessionOk B s ∥₁ → Does B s (forced o budget) (force_reply f n) s' →
@@ -101,7 +99,7 @@ pub forced_both : (B : Bank) (s s' : State) (mid : Point) (o budget n m left tot
     Search (quest B qs) left (start qs mid.store) m s'.point (end_by e (read B.width t)) →
     s'.picks ≡ s.picks → s'.searching ≡ false → Does B s (forced o budget) (force_reply f total) s'
 forced_both B s s' mid o budget n m left total qs v t e f ho hb free hv hq hl ht hf first second p q =
-    subst (λ r. Does B s (forced o budget) r s') (sym reply) (forced_twice B s s' o budget n m β mid (end_by e (read B.width t)) ho hb free first again p q)
+    rw reply (forced_twice B s s' o budget n m β mid (end_by e (read B.width t)) ho hb free first again p q)
   where
     β : Build
     β = read B.width mid.trail
@@ -110,9 +108,7 @@ forced_both B s s' mid o budget n m left total qs v t e f ho hb free hv hq hl ht
     with = hq ∙ ap (λ x. set s.picks o (num (not x))) hv
 
     again : Search (quest B (against s.picks o β)) (budget - n) (start (against s.picks o β) mid.store) m s'.point (end_by e (read B.width t))
-    again =
-        subst (λ k. Search (quest B (against s.picks o β)) k (start (against s.picks o β) mid.store) m s'.point (end_by e (read B.width t))) hl
-        (subst (λ ps. Search (quest B ps) left (start ps mid.store) m s'.point (end_by e (read B.width t))) with second)
+    again = rw (hl, with) at second
 
     count : total ≡ n + m
     count = ht ∙ steps_both budget n m hb first.in_budget (search_within (quest B (against s.picks o β)) (budget - n) (start (against s.picks o β) mid.store) m s'.point (end_by e (read B.width t)) again)

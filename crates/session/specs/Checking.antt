@@ -1,15 +1,10 @@
 -- What `check` answers.
 use Rattle.std.specs.Prelude.{ℕ, Bool, cond, List, take, Ok, Err, Option, Result, nat_eq}
-use Rattle.std.specs.List.{list_all, range_with_len, zip}
-use Rattle.builds.specs.Builds.{Build}
+use Rattle.std.specs.List.{list_all, zip}
 use Rattle.builds.specs.Values.{bits, up_to, allows}
 use Rattle.bank.specs.Banks.{Bank}
 use Rattle.search_theory.specs.Orders.{fulfils}
 use Rattle.search_theory.specs.Values.{value_number}
-
--- the build meets each rule
-abbrev pub meets_each : Bank → Build → Bool
-meets_each B β = list_all (λ rule. B.meets rule β) (range_with_len 0 B.rules)
 
 -- each value is that of its option's pick, if it has one
 abbrev pub keeps : List (Option Bool) → List ℕ → Bool

@@ -1,10 +1,11 @@
 // Checks a whole build against the rules and the picks.
 ghost use Rattle.std.specs.Prelude.{◌≡◌, ◌<◌, ◌≤◌, true, length, take, nat_eq};
 ghost use Rattle.builds.specs.Values.{bits, up_to, allows};
+ghost use Rattle.bank.specs.Banks.{meets_all};
 ghost use Rattle.bank.specs.Numbers.{numbered};
 ghost use Rattle.search_theory.specs.Values.{value_number};
 ghost use Rattle.session.specs.View.{state_of};
-ghost use Rattle.session.specs.Checking.{meets_each, keeps, check_reply};
+ghost use Rattle.session.specs.Checking.{keeps, check_reply};
 
 use crate::session::Session;
 use bank::asked::values_up_to;
@@ -37,18 +38,14 @@ fn meets_rule<B: RuleBank>(b: &B, rule: usize, build: &[u8]) -> bool
     ensures { result ≡ (B.meaning b.now).meets rule (bits (take (B.meaning b.now).width build.now)) }
 {
     let mut marks = [2u8; 128];
-    match b.mark(rule, build, &mut marks) {
-        Ok(Answer::Dead) => false,
-        Ok(Answer::Live) => true,
-        Err(_) => unreachable(),
-    }
+    b.mark(rule, build, &mut marks) == Ok(Answer::Live)
 }
 
 // Whether the build meets every rule of the bank.
 fn meets_rules<B: RuleBank>(b: &B, build: &[u8]) -> bool
     requires long { (B.meaning b.now).width ≤ length build.now }
     requires whole { up_to 1 (take (B.meaning b.now).width build.now) ≡ true }
-    ensures { result ≡ meets_each (B.meaning b.now) (bits (take (B.meaning b.now).width build.now)) }
+    ensures { result ≡ meets_all (B.meaning b.now) (bits (take (B.meaning b.now).width build.now)) }
 {
     (0..b.count()).all(|rule| meets_rule(b, rule, build))
 }

@@ -1,5 +1,5 @@
 // Completes the picks to the first build that meets every rule: `complete` begins a search, `resume` goes on with the open one.
-ghost use Rattle.std.specs.Prelude.{◌≡◌, ◌^◌, ◌≤◌, true, length, OnErr};
+ghost use Rattle.std.specs.Prelude.{◌≡◌, ◌≤◌, true, length, OnErr};
 ghost use Rattle.builds.specs.Builds.{first_build};
 ghost use Rattle.search_theory.specs.Orders.{fulfils};
 ghost use Rattle.search_theory.specs.Trails.{read};

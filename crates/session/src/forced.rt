@@ -59,32 +59,23 @@ impl<B: RuleBank> Session<B> {
         }
         let mut picks = self.picks;
         let first = self.search_with(picks, budget);
-        let steps = first.steps;
-        match first.answer {
-            Verdict::NoBuild => Ok(Counted {
-                answer: Force::NoBuild,
-                steps,
-            }),
-            Verdict::Spent => Ok(Counted {
-                answer: Force::Spent,
-                steps,
-            }),
+        let (answer, steps) = match first.answer {
+            Verdict::NoBuild => (Force::NoBuild, first.steps),
+            Verdict::Spent => (Force::Spent, first.steps),
             Verdict::Build => {
                 let taken = self.search.trail.value(option).unwrap_or(false);
-                let picked = picks[option];
-                if picked.is_some() {
-                    return Ok(Counted {
-                        answer: Force::Only(taken),
-                        steps,
-                    });
+                if picks[option].is_some() {
+                    (Force::Only(taken), first.steps)
+                } else {
+                    picks[option] = Some(!taken);
+                    let second = self.search_with(picks, budget.saturating_sub(first.steps));
+                    (
+                        by_second(second.answer, taken),
+                        first.steps.saturating_add(second.steps),
+                    )
                 }
-                picks[option] = Some(!taken);
-                let second = self.search_with(picks, budget.saturating_sub(steps));
-                Ok(Counted {
-                    answer: by_second(second.answer, taken),
-                    steps: steps.saturating_add(second.steps),
-                })
             }
-        }
+        };
+        Ok(Counted { answer, steps })
     }
 }

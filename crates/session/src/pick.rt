@@ -26,6 +26,7 @@ impl<B: RuleBank> Session<B> {
         if value > 1 {
             return Err(Refusal::PickValue);
         }
+        // copied out first (c): a direct call writes the place back into the session, whose invariant then did not prove; a local table and pick_text's have none
         let picked = self.picks[option];
         if picked.is_some() {
             return Err(Refusal::AlreadyPicked);

@@ -22,6 +22,7 @@ impl<B: RuleBank> Session<B> {
         if option >= self.bank.width() {
             return Err(Refusal::OptionOutside);
         }
+        // copied out first (c): a direct call writes the place back into the session, whose invariant then did not prove; a local table and pick_text's have none
         let picked = self.picks[option];
         if picked.is_none() {
             return Err(Refusal::NotPicked);

@@ -1,5 +1,6 @@
 // A session: one bank, the picks, where its last search stands with what was learnt, and whether that search is open.
 // The calls on it stand in files of their own.
+// Several of them state bank, picks, refusal, refused and does anew: each relates the session before a call to that after it, which no type holds (d).
 ghost use Rattle.session.specs.Stands.{Stands};
 
 use bank::rule_bank::RuleBank;

@@ -2,15 +2,18 @@
 use Rattle.std.specs.Prelude.{ℕ, ◌+◌, Bool, true, false, cond, ◌&&◌, List, ◌++◌, length, map, drop, Ok, Err, Result, nat_le, nat_lt}
 use Rattle.std.specs.List.{range_with_len}
 use Rattle.diagrams.specs.declared.row.Root.{Root}
+use Rattle.diagrams.specs.declared.table.Diagrams.{Diagrams}
 use Rattle.diagrams.specs.Roots.{root_at}
+use Rattle.sweeps.specs.declared.weights.Weights.{Weights}
 
 -- the node of the root; no such rule 7
 abbrev pub root_reply : List Root → ℕ → Result ℕ ℕ
 root_reply roots rule = cond (nat_lt rule (length roots)) (Ok (root_at roots rule).node) (Err 7)
 
--- so many weights for 0 and for 1, and so many places, are enough for w options and the rows in use
-abbrev pub room : ℕ → ℕ → ℕ → ℕ → ℕ → Bool
-room w used lows highs places = nat_le w lows && (nat_le w highs && nat_le (used + 2) places)
+-- the weights reach to the table's width, and so many places to its last node
+abbrev pub room : {S : Type 0} → Diagrams → Weights S → ℕ → Bool
+room bank weights places =
+    nat_le bank.width (length weights.low.now) && (nat_le bank.width (length weights.high.now) && nat_le (bank.used + 2) places)
 
 -- a short place is refused by its number
 abbrev pub column_reply : Bool → Result (Unit {0}) ℕ

@@ -3,47 +3,37 @@
 ghost use Rattle.std.specs.Prelude.{◌≡◌, true, false, ◌&&◌, ◌||◌};
 ghost use Rattle.diagram_theory.specs.Semirings.{Laws};
 ghost use Rattle.diagram_theory.specs.Models.{or_and, modular, any_bool, below_64, sum_64, product_64};
+ghost use Rattle.sweeps.specs.Weighing.{Operations};
 
 pub trait Semiring {
     // the values that the carrier can hold
     ghost valid: { Self → Type 0 };
 
-    ghost zero: { Self };
+    // zero, one, sum and product
+    ghost operations: { Operations Self };
 
-    ghost one: { Self };
-
-    ghost plus: { Self → Self → Self };
-
-    ghost times: { Self → Self → Self };
-
-    ghost laws: { Laws valid zero one plus times };
+    ghost laws: { Laws valid operations.zero operations.one operations.plus operations.times };
 
     // The sum of nothing, which absorbs every product.
     fn zero() -> Self
-        ensures { result ≡ zero };
+        ensures { result ≡ operations.zero };
 
     // The product of nothing.
     fn one() -> Self
-        ensures { result ≡ one };
+        ensures { result ≡ operations.one };
 
     fn add(self, other: Self) -> Self
-        ensures { result ≡ plus self other };
+        ensures { result ≡ operations.plus self other };
 
     fn mul(self, other: Self) -> Self
-        ensures { result ≡ times self other };
+        ensures { result ≡ operations.times self other };
 }
 
 // Yes and no: or, and.
 impl Semiring for bool {
     ghost valid = { any_bool };
 
-    ghost zero = { false };
-
-    ghost one = { true };
-
-    ghost plus = { ◌||◌ };
-
-    ghost times = { ◌&&◌ };
+    ghost operations = { record { zero = false; one = true; plus = ◌||◌; times = ◌&&◌ } };
 
     ghost laws = { or_and };
 
@@ -68,13 +58,7 @@ impl Semiring for bool {
 impl Semiring for u64 {
     ghost valid = { below_64 };
 
-    ghost zero = { 0 };
-
-    ghost one = { 1 };
-
-    ghost plus = { sum_64 };
-
-    ghost times = { product_64 };
+    ghost operations = { record { zero = 0; one = 1; plus = sum_64; times = product_64 } };
 
     ghost laws = { modular };
 

@@ -12,8 +12,8 @@ pub struct Weights<'a, S> {
 
 // A table with weights for each of its options.
 #[derive(Drop)]
-pub(crate) struct Weighed<'t, 'a, S> {
+pub struct Weighed<'t, 'a, S> {
     pub bank: &'t Diagrams<'a>,
     pub weights: &'t Weights<'t, S>,
-    ghost wide: { (bank.now.width ≤ length weights.now.low.now) × (bank.now.width ≤ length weights.now.high.now) },
+    pub ghost wide: { (bank.now.width ≤ length weights.now.low.now) × (bank.now.width ≤ length weights.now.high.now) },
 }

@@ -1,4 +1,4 @@
 pub mod FieldRows
-pub mod Going
 pub mod LineNumbers
 pub mod Placing
+pub mod Reading

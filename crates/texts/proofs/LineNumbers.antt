@@ -1,5 +1,5 @@
 -- The line with a number, one line on.
-use Rattle.std.proofs.Common.{◌≡◌, ◌≢◌, ℕ, zero, suc, ◌+◌, ◌-◌, Bool, true, false, cond, List, [], ◌∷◌, ◌++◌, length, take, drop, Some, None, sym, refl, ap, ◌∙◌, subst, append_assoc, zero-add, add-zero, arith}
+use Rattle.std.proofs.Common.{◌≡◌, ◌≢◌, ℕ, zero, suc, ◌+◌, ◌-◌, true, false, cond, List, [], ◌∷◌, ◌++◌, length, drop, Some, None, sym, refl, ap, ◌∙◌, subst, append_assoc, zero-add, add-zero, arith}
 use Rattle.std.proofs.lemmas.List.{length-append, drop-drop, take_at, drop_at}
 use Rattle.lines.specs.Lines.{Line, lines_of}
 use Rattle.lines.specs.Places.{line_at}
@@ -45,63 +45,49 @@ place_later : (at n : ℕ) (l : Line) (ls : List Line) → n ≢ 1 → place_fro
 unfolding place_from
 place_later at zero l ls ne = refl
 place_later at (suc zero) l ls ne = absurd (ne refl)
-place_later at (suc (suc n)) l ls ne =
-    let z : suc (suc n) - 1 ≡ suc n = omega arith in
-    let y : at + length l.bytes + cond l.closed 1 0 ≡ at + taken l = omega arith in
-    ap (λ k. place_from k (suc n) ls) y ∙ ap (λ k. place_from (at + taken l) k ls) (sym z)
+place_later at (suc (suc n)) l ls ne = let z : suc (suc n) - 1 ≡ suc n = omega arith in rw z (ap (λ k. place_from k (suc n) ls) (omega arith))
 
 numbered_later : (n : ℕ) (l : Line) (ls : List Line) → n ≢ 1 → line_numbered n (l ∷ ls) ≡ line_numbered (n - 1) ls
 unfolding line_numbered
 numbered_later zero l ls ne = refl
 numbered_later (suc zero) l ls ne = absurd (ne refl)
-numbered_later (suc (suc n)) l ls ne = let z : suc (suc n) - 1 ≡ suc n = omega arith in ap (λ k. line_numbered k ls) (sym z)
-
-lf_length : (b : Bool) → length {A = ℕ} (cond b (10 ∷ []) []) ≡ cond b 1 0
-lf_length true = refl
-lf_length false = refl
+numbered_later (suc (suc n)) l ls ne = let z : suc (suc n) - 1 ≡ suc n = omega arith in rw z refl
 
 module _ (text : List ℕ) (number before start : ℕ) (rest : List ℕ) (so_far : Placing text number before start rest) where
   -- there is no line
   module _ (end : lines_of rest ≡ []) where
     pub none_placed : None ≡ place_of number text
-    none_placed = sym (place_past start (number - before)) ∙ ap (place_from start (number - before)) (sym end) ∙ so_far.place
+    none_placed = let p = place_past start (number - before) in cc
 
     pub none_numbered : None ≡ line_numbered number (lines_of text)
-    none_numbered = sym (numbered_past (number - before)) ∙ ap (line_numbered (number - before)) (sym end) ∙ so_far.line
+    none_numbered = let p = numbered_past (number - before) in cc
 
   module _ (later : List ℕ) (l : Line) (next : lines_of rest ≡ l ∷ lines_of later) where
     front : List ℕ
     front = l.bytes ++ cond l.closed (10 ∷ []) []
 
-    whole : rest ≡ l.bytes ++ (cond l.closed (10 ∷ []) [] ++ later)
-    whole = first_and_rest rest later l next
-
     long : length front ≡ taken l
     unfolding front
-    long = length-append l.bytes (cond l.closed (10 ∷ []) []) ∙ ap (λ n. length l.bytes + n) (lf_length l.closed)
+    long = grind (arith, length-append)
 
     parted : rest ≡ front ++ later
     unfolding front
-    parted = whole ∙ sym (append_assoc l.bytes (cond l.closed (10 ∷ []) []) later)
+    parted = first_and_rest rest later l next ∙ sym (append_assoc l.bytes (cond l.closed (10 ∷ []) []) later)
 
     -- the line and its LF stand in the text
     pub within : start + taken l + length later ≡ length text
-    within = let a = ap length parted in let b = length-append front later in let c = long in let d = so_far.inside in omega arith
+    within = let d = so_far.inside in omega (arith, ap length parted, length-append front later, long)
 
     -- it is another line than the one that is looked for
     pub placing_on : (now begin : ℕ) → now ≡ before + 1 → now ≢ number → begin ≡ start + taken l → Placing text number now begin later
     placing_on now begin n ne b =
         let other : number - before ≢ 1 = λ e. ne (omega arith) in
-        let z : number - now ≡ number - before - 1 = omega arith in
-        let P : ℕ → Type 0 = λ k. Placing text number now k later in
-        subst P (sym b) (record {
-          inside = within;
-          left = sym (drop-drop (taken l) start text) ∙ ap (drop (taken l)) (so_far.left ∙ parted) ∙ drop_at front later (taken l) long;
-          place = ap (λ k. place_from (start + taken l) k (lines_of later)) z ∙ sym (place_later start (number - before) l (lines_of later) other)
-              ∙ ap (place_from start (number - before)) (sym next) ∙ so_far.place;
-          line = ap (λ k. line_numbered k (lines_of later)) z ∙ sym (numbered_later (number - before) l (lines_of later) other)
-              ∙ ap (line_numbered (number - before)) (sym next) ∙ so_far.line;
-        })
+        let left : number - now ≡ number - before - 1 = omega arith in
+        let p = place_later start (number - before) l (lines_of later) other in
+        let m = numbered_later (number - before) l (lines_of later) other in
+        let past = drop-drop (taken l) start text ∙ ap (λ k. drop k text) (sym b) in
+        let rest = drop_at front later (taken l) long in
+        record { inside = omega (arith, within); left = sym past ∙ ap (drop (taken l)) (so_far.left ∙ parted) ∙ rest; place = cc; line = cc }
 
     module _ (e : before + 1 ≡ number) where
       one : 1 ≡ number - before
@@ -115,7 +101,5 @@ module _ (text : List ℕ) (number before start : ℕ) (rest : List ℕ) (so_far
       unfolding line_numbered
       line_there =
           let n : start + length l.bytes - start ≡ length l.bytes = omega arith in
-          let b : take (start + length l.bytes - start) (drop start text) ≡ l.bytes =
-          ap (λ k. take k (drop start text)) n ∙ ap (take (length l.bytes)) (so_far.left ∙ whole) ∙ take_at l.bytes (cond l.closed (10 ∷ []) [] ++ later) (length l.bytes) refl in
-          ap (λ t. Some (record { bytes = t; closed = l.closed })) b
-          ∙ ap (line_numbered 1) (sym next) ∙ ap (λ k. line_numbered k (lines_of rest)) one ∙ so_far.line
+          let b = take_at l.bytes (cond l.closed (10 ∷ []) [] ++ later) (length l.bytes) refl in
+          rw (n, so_far.left, first_and_rest rest later l next, b) (ap (line_numbered 1) (sym next) ∙ ap (λ k. line_numbered k (lines_of rest)) one ∙ so_far.line)

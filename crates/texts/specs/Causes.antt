@@ -49,10 +49,14 @@ abbrev pub placed_at : {X E : Type 0} → Text → ℕ → Result X E → Result
 placed_at text line (Ok x) = Ok x
 placed_at text line (Err e) = Err (record { text = Some text; line = Some line; cause = e })
 
--- a result of a text, its fault by its numbers
-abbrev pub faulted : {X : Type 0} → Result X TextFault → Result X Fault
-faulted (Ok x) = Ok x
-faulted (Err f) = Err (fault_of f)
+-- what a call that fills a value says of it: the value, or the fault of its line or of its text
+abbrev pub line_said : {X : Type 0} → Result (Unit {0}) Cause → X → Result X Layered
+line_said (Ok u) x = Ok x
+line_said (Err e) x = Err (layered e)
+
+abbrev pub text_said : {X : Type 0} → Result (Unit {0}) TextFault → X → Result X Fault
+text_said (Ok u) x = Ok x
+text_said (Err f) x = Err (fault_of f)
 
 -- the numbers that a line gave, its fault by its numbers
 abbrev pub lined : Result (List ℕ) LineFault → Result (List ℕ) Layered

@@ -39,6 +39,7 @@ pub enum Text {
 }
 
 // A fault with its place: the text and the line, where it was in one.
+// Two options and not one of a pair: a text that is too long has a fault without a line, and the listing tells both numbers apart.
 #[derive(Clone, Copy, PartialEq, Eq, Debug, Drop)]
 pub struct AtLine<E> {
     pub text: Option<Text>,

@@ -1,20 +1,19 @@
 // The fields of a line as numbers. Lengths are checked before fields, since the earlier check decides which fault a line has.
 // No line has more than 32 fields in a row: the readers of the lines refuse longer lists before they ask for the fields, and a
 // longer list is none here either.
-ghost use Rattle.std.specs.Prelude.{◌≡◌, ℕ, ◌+◌, ◌*◌, ◌<◌, ◌≤◌, max, true, length, Some, None, Ok, Err, MatchResult};
+ghost use Rattle.std.specs.Prelude.{◌≡◌, ◌*◌, ◌<◌, ◌≤◌, max, length, Ok, Err};
 ghost use Rattle.lines.specs.Said.{line_of};
 ghost use Rattle.texts.specs.Causes.{lined, listed};
 ghost use Rattle.texts.specs.Fields.{fields, with_fields, plain_line, listed_line, listed_rest};
 
 use crate::faults::LineFault;
 use arrayvec::ArrayVec;
+use fields::COLUMNS;
 use fields::read::read_field;
 use lines::line::Line;
 
-// The most fields in a row, and the columns of a field.
+// The most fields in a row.
 const MOST_FIELDS: usize = 32;
-
-const COLUMNS: usize = 6;
 
 // The first `count` fields of the bytes.
 fn read_fields(bytes: &[u8], count: usize) -> Result<ArrayVec<u32, 32>, LineFault>
@@ -68,6 +67,7 @@ pub fn front_fields(line: Line<'_>, count: usize) -> Result<ArrayVec<u32, 32>, L
 }
 
 // The fields of a line that has exactly `N`.
+#[tactic(auto, using(crate::proofs::FieldRows::read_count))]
 pub fn whole_fields<const N: usize>(line: Line<'_>) -> Result<[u32; N], LineFault>
     ensures value { N ≤ 32 → lined result ≡ plain_line N (line_of line.entry) Ok }
     ensures many { 32 < N → result ≡ Err LineFault.Length }
@@ -76,6 +76,7 @@ pub fn whole_fields<const N: usize>(line: Line<'_>) -> Result<[u32; N], LineFaul
 }
 
 // The first `N` fields of a line that has more, likewise.
+#[tactic(auto, using(crate::proofs::FieldRows::read_count))]
 pub fn first_fields<const N: usize>(line: Line<'_>) -> Result<[u32; N], LineFault>
     ensures value { N ≤ 32 → lined result ≡ listed_line N (line_of line.entry) Ok }
     ensures many { 32 < N → result ≡ Err LineFault.Length }

@@ -1,5 +1,5 @@
 // Where the line with a number stands, so that a faulty line can be handed out.
-ghost use Rattle.std.specs.Prelude.{◌≡◌, ℕ, ◌+◌, ◌≤◌, length, IfSome};
+ghost use Rattle.std.specs.Prelude.{◌≡◌, ◌≤◌, length, IfSome};
 ghost use Rattle.lines.specs.Lines.{lines_of};
 ghost use Rattle.texts.specs.Places.{place_of, line_numbered, line_there};
 

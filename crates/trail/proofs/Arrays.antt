@@ -1,5 +1,5 @@
 -- Arrays that a closure fills, index by index.
-use Rattle.std.proofs.Common.{◌≡◌, ℕ, zero, suc, ◌+◌, ◌<◌, ◌≤◌, List, map, get_or, sym, ap, ◌∙◌, subst, inl, inr, arith}
+use Rattle.std.proofs.Common.{◌≡◌, ℕ, zero, suc, ◌+◌, ◌<◌, ◌≤◌, List, map, get_or, sym, ap, ◌∙◌, inl, inr, arith}
 use denote.Param.Members.{Mut}
 use Rattle.std.specs.Array.{IsFromFnResultFrom, IsFromFnResult}
 use Rattle.std.specs.Fn.{Called}
@@ -15,7 +15,7 @@ module _ {F B : Type 0} (g : Mut F (ℕ × Unit {0}) B) (h : ℕ → B) (f : F) 
       let c = each i s.1 s.0 (omega arith) s.3 in
       elim (cases_eq k i) [
         | inl q ↦ ap (λ x. get_or ys x d) q ∙ s.2.1 d ∙ c.1 ∙ ap h (sym q)
-        | inr q ↦ filled_from m (i + 1) (omega arith) (subst (λ p. IsFromFnResultFrom g p ys (i + 1) m) c.0 s.4) k (omega arith) u d
+        | inr q ↦ filled_from m (i + 1) (omega arith) (rw c.0 at s.4) k (omega arith) u d
       ]
 
   pub filled : IsFromFnResult g f ys n → (d : B) → ys ≡ map h (range_with_len 0 n)

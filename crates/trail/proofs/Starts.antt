@@ -18,5 +18,4 @@ pub begun_start : (ps : List ℕ) (t : Table) (s : Learnt) → Begun ps t → po
 unfolding Begun
 begun_start ps t s b =
     let e : trail_of t.entries ≡ (λ i. start_entry (get_or ps i 2)) = fun_ext (λ i. ap (λ x. trail_of x i) b.0 ∙ trail_start ps i) in
-    ap (λ x. record { trail = x; depth = t.depth; store = store_of s }) e
-    ∙ ap (λ x. record { trail = λ i. start_entry (get_or ps i 2); depth = x; store = store_of s }) b.1
+    rw (e, b.1)

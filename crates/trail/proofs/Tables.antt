@@ -1,6 +1,5 @@
 -- The table of entries, entry by entry: what is read off it, and what a write to it leaves.
 use Rattle.std.proofs.Common.{◌≡◌, ℕ, zero, suc, ◌+◌, ◌<◌, ◌≤◌, Bool, true, false, cond, leb, ◌≢◌, List, [], ◌∷◌, ◌++◌, map, length, get_or, take, drop, set, Some, None, Option, option_map, is_some, MatchOption, sym, refl, ap, ◌∙◌, arith}
-use mir.Val.{bool_byte}
 use Rattle.std.specs.List.{range_with_len}
 use Rattle.std.proofs.lemmas.Bool.{cond-true, le-leb}
 use Rattle.std.proofs.lemmas.List.{get_or-set_same, get_or-set_other, get_or_default, get_or-map, length-map, length-append, take-append-drop, ext_get_or}
@@ -14,7 +13,6 @@ use Rattle.search_theory.proofs.Banks.{length_values, at_values}
 use Rattle.trail.specs.declared.entry.Entry.{Entry as Row}
 use Rattle.trail.specs.declared.entry.Entry.TheVariants.{Picked, Decided, Implied}
 use Rattle.search_theory.specs.Values.{value_number}
-use Rattle.search_theory.proofs.Values.{byte_num}
 use Rattle.trail.specs.View.{trail_of, entry_of}
 use Rattle.trail.specs.Rows.{start_row, kept_row, Lowest, Last, NoLast}
 use Rattle.trail.specs.Building.{handed}
@@ -52,7 +50,7 @@ start_number (Some true) = refl
 
 pub start_numbers : (ps : List (Option Bool)) → map (option_map Picked) ps ≡ map start_row (map value_number ps)
 start_numbers [] = refl
-start_numbers (p ∷ ps) = ap (λ e. e ∷ map (option_map Picked) ps) (start_number p) ∙ ap (λ es. start_row (value_number p) ∷ es) (start_numbers ps)
+start_numbers (p ∷ ps) = rw (start_number p, start_numbers ps)
 
 -- the entries of the picks, index by index
 pub picks_read : (n : ℕ) (ps : List (Option Bool)) → length ps ≡ n → map (option_map Picked) ps ≡ map (λ i. option_map Picked (get_or ps i None)) (range_with_len 0 n)
@@ -83,11 +81,6 @@ pub values_made : (n : ℕ) (t : Trail) → values_from n 0 t ≡ map (λ i. sho
 values_made n t =
     ext_get_or 2 (values_from n 0 t) (map (λ i. shown (t i)) (range_with_len 0 n)) (length_values n 0 t ∙ sym (length-map-range_with_len (λ i. shown (t i)) 0 n))
     (λ k l. (let h : k < n = omega (arith, length_values n 0 t) in at_values n t k h ∙ sym (get_or-map-range_with_len (λ i. shown (t i)) 0 n k k 2 h (omega arith))))
-
--- an option's value as the build has it: an open option reads 0
-pub value_bit : (e : Option Row) (v : Bool) → MatchOption e (v ≡ false) (λ x. v ≡ value (entry_of (Some x))) → bool_byte v ≡ num (value (entry_of e))
-value_bit None v h = ap bool_byte h
-value_bit (Some x) v h = byte_num v ∙ ap num h
 
 -- the places that were written, and the rest
 pub build_written : (w : ℕ) (t : Trail) (old bits : List ℕ) → w ≤ length old → length bits ≡ w → ((k : ℕ) → k < w → get_or bits k 0 ≡ num (value (t k))) → bits ++ drop w old ≡ handed w t old

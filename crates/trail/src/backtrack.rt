@@ -18,6 +18,7 @@ impl Trail {
     }
 
     // Cuts the decisions above the level, and every value that stands on them.
+    #[tactic(auto, using(crate::proofs::Tables::cut_more))]
     pub fn cut(&mut self, level: u8)
         ensures table { self.new.entries ≡ map (kept_row level) self.old.entries }
         ensures depth { self.new.depth ≡ level }

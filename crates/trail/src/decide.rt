@@ -1,5 +1,5 @@
 // Decisions. The lowest open option is tried at 0 first, so that the first full trail without a dead rule is the first build.
-ghost use Rattle.std.specs.Prelude.{◌≡◌, ◌+◌, ◌<◌, ◌≤◌, min, length, MatchOption, slice_set};
+ghost use Rattle.std.specs.Prelude.{◌≡◌, ◌+◌, min, MatchOption, slice_set};
 ghost use Rattle.search_theory.specs.Trails.{Full};
 ghost use Rattle.trail.specs.View.{trail_of};
 ghost use Rattle.trail.specs.Rows.{decision_row, Lowest};
@@ -18,9 +18,7 @@ impl Trail {
     // Gives the option 0, one level deeper; no other entry changes, and none at all where the table has no such option.
     // There are no more levels than options, so the level never meets its largest value.
     pub fn decide(&mut self, option: usize)
-        ensures there { option < 128 → option < length self.old.entries }
-        ensures table { option < 128 → self.new.entries ≡ slice_set self.old.entries option (decision_row (min (self.old.depth + 1) 255)) }
-        ensures past { 128 ≤ option → self.new.entries ≡ self.old.entries }
+        ensures table { self.new.entries ≡ slice_set self.old.entries option (decision_row (min (self.old.depth + 1) 255)) }
         ensures depth { self.new.depth ≡ min (self.old.depth + 1) 255 }
     {
         self.depth = self.depth.saturating_add(1);

@@ -1,5 +1,5 @@
 // Implications: a value that a rule gives, the bank's or a learnt one.
-ghost use Rattle.std.specs.Prelude.{◌≡◌, ◌<◌, ◌≤◌, length, slice_set};
+ghost use Rattle.std.specs.Prelude.{◌≡◌, slice_set};
 ghost use Rattle.trail.specs.Rows.{rule_row};
 
 use crate::entry::{Entry, Source};
@@ -9,9 +9,7 @@ impl Trail {
     // Gives the option the value that a rule marks, at the present level; no other entry changes, and none at all where the
     // table has no such option.
     pub fn imply(&mut self, option: usize, value: bool, source: Source)
-        ensures there { option < 128 → option < length self.old.entries }
-        ensures table { option < 128 → self.new.entries ≡ slice_set self.old.entries option (rule_row value self.old.depth source) }
-        ensures past { 128 ≤ option → self.new.entries ≡ self.old.entries }
+        ensures table { self.new.entries ≡ slice_set self.old.entries option (rule_row value self.old.depth source) }
         ensures depth { self.new.depth ≡ self.old.depth }
     {
         let level = self.depth;

@@ -1,11 +1,5 @@
 // The trail: one entry for each option, none where it is open, and how many decisions stand. A search begins with the picks alone.
-ghost use Rattle.std.specs.Prelude.{◌≡◌, ◌<◌, ◌≤◌, map, replicate, length, Some, None, option_map, slice_index_or, slice_set};
-ghost use Rattle.search_theory.specs.Searches.{shown as shown_of, values_from};
-ghost use Rattle.trail.specs.declared.entry.Entry.TheVariants.{Picked};
-ghost use Rattle.search_theory.specs.Values.{value_number};
-ghost use Rattle.trail.specs.View.{trail_of};
-ghost use Rattle.trail.specs.Building.{handed};
-ghost use Rattle.trail.specs.Beginning.{Begun};
+ghost use Rattle.std.specs.Prelude.{◌≡◌, length};
 
 use crate::entry::{Entry, shown};
 use std::array;
@@ -15,9 +9,18 @@ use std::array;
 pub struct Trail {
     pub(crate) entries: [Option<Entry>; 128],
     pub(crate) depth: u8,
+    ghost sized: { length entries ≡ 128 },
 }
 
 impl Trail {
+    ghost use Rattle.std.specs.Prelude.{map, replicate, Some, None, option_map, slice_index_or, slice_set};
+    ghost use Rattle.search_theory.specs.Searches.{shown as shown_of, values_from};
+    ghost use Rattle.trail.specs.declared.entry.Entry.TheVariants.{Picked};
+    ghost use Rattle.search_theory.specs.Values.{value_number};
+    ghost use Rattle.trail.specs.View.{trail_of};
+    ghost use Rattle.trail.specs.Building.{handed};
+    ghost use Rattle.trail.specs.Beginning.{Begun};
+
     // The trail with every option open.
     pub fn new() -> Trail
         ensures table { result.entries ≡ replicate 128 None }
@@ -61,6 +64,7 @@ impl Trail {
     }
 
     // The values of all options. They are numbers, as a bank's `mark` reads them: a caller of it may hand in a wrong one.
+    // By `from_fn`, since an array's `map` first moves the whole table into an iterator.
     pub fn values(&self) -> [u8; 128]
         ensures { result ≡ values_from 128 0 (trail_of self.now.entries) }
     {
@@ -68,13 +72,13 @@ impl Trail {
     }
 
     // Gives the option the entry, where the table has such an option; no other entry changes.
+    // By index: of a slice's `get_mut` a proof does not know what was written through it.
+    #[tactic(auto, using(std::proofs::lemmas::List::set_past))]
     pub(crate) fn write(&mut self, option: usize, entry: Entry)
-        ensures there { option < 128 → option < length self.old.entries }
-        ensures table { option < 128 → self.new.entries ≡ slice_set self.old.entries option (Some entry) }
-        ensures past { 128 ≤ option → self.new.entries ≡ self.old.entries }
+        ensures table { self.new.entries ≡ slice_set self.old.entries option (Some entry) }
         ensures depth { self.new.depth ≡ self.old.depth }
     {
-        if option < 128 {
+        if option < self.entries.len() {
             self.entries[option] = Some(entry);
         }
     }
@@ -87,6 +91,7 @@ impl Trail {
         if place.len() < width {
             return;
         }
+        // numbered by `enumerate`: `iter_mut().zip(..)` was tried, and a proof then knows nothing of what was written (c)
         for (option, bit) in place[..width].iter_mut().enumerate() {
             *bit = self.entry(option).is_some_and(Entry::value) as u8;
         }

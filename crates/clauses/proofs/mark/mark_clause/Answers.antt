@@ -1,6 +1,9 @@
-use Rattle.std.proofs.Common.{◌/◌, ◌%◌, length, set, sym, refl, ◌∙◌, arith, length-set}
+use mir.Val.{bool_byte}
+use Rattle.std.proofs.Common.{◌≡◌, ℕ, ◌/◌, ◌%◌, length, set, sym, refl, ◌∙◌, arith, length-set}
+use Rattle.std.proofs.lemmas.Bool.Decides.{nat_tests}
 use Rattle.bank.proofs.Fronts.{dead_noted, live_noted}
 use Rattle.clauses.proofs.Scans.{left_says, scan_one}
+use Rattle.clauses.specs.Clause.{wants}
 use Rattle.clauses.specs.declared.left.Left.TheVariants.{Nothing, One, Free}
 use Rattle.clauses.proofs.mark.mark_clause.Goals as goal
 
@@ -17,6 +20,10 @@ returns-in-Nothing c =
     let r = dead_noted _ c.args.marks.now e in
     record { value = r.0; after = r.1 }
 
+-- the wanted value as the byte that is written for it
+byte_wants : (l : ℕ) → bool_byte (wants l) ≡ l % 2
+byte_wants l = grind (arith, nat_tests)
+
 pub returns-in-One : goal.returns-in-One
 returns-in-One c =
     let v = c.args.values.now in
@@ -25,6 +32,7 @@ returns-in-One c =
     let r = live_noted _ (set v (l.number / 2) (l.number % 2)) c.args.marks.now e (simp length-set (omega arith)) in
     let same = c.copy_from_slice.ensures.after in
     let marks = r.1 in
+    let wanted = byte_wants l.number in
     record { value = r.0; after = cc }
 
 pub returns-in-Free : goal.returns-in-Free

@@ -19,7 +19,7 @@ loop-option-preserved c =
     let at = ap (λ e. denies i (entry_of e)) c.entry.ensures in
     let room : length ls < 128 = omega (arith, c.loop-option.invariant.0, c.requires) in
     elim c.match-against.branch [
-      | in-Some w ↦ (let more = w.clause-is ∙ w.push.ensures.more room (omega arith) in (
+      | in-Some w ↦ (let more = w.clause-is ∙ w.push.ensures.more (omega arith) in (
         omega (arith, ap length more, length_push ls w.in-Some.literal, c.loop-option.invariant.0),
         ap numbers more ∙ map_push (λ l. l.number) ls w.in-Some.literal ∙ denial_more (trail_of es) i (numbers ls) _ c.loop-option.invariant.1 (w.in-Some.ensures ∙ at),
       ))

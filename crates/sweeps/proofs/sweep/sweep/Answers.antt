@@ -1,15 +1,16 @@
 use Rattle.std.proofs.Common.{◌≡◌, ◌+◌, ap, ◌∙◌}
-use Rattle.diagram_theory.specs.Semirings.{weights, node_sum, sweep_of}
+use Rattle.diagram_theory.specs.Semirings.{node_sum, sweep_of}
 use Rattle.diagram_theory.proofs.Steps.{whole_sum}
 use Rattle.diagram_theory.proofs.Columns.{column_at}
 use Rattle.sweeps.specs.Replies.{column_place}
+use Rattle.sweeps.specs.Weighing.{weighing}
 use Rattle.sweeps.proofs.Answered.{rooted, had_room}
 use Rattle.sweeps.proofs.sweep.sweep.Goals as goal
 
 pub through-requires-clause-known : goal.through-requires-clause-known
 through-requires-clause-known g c =
     let s = g.S.Semiring in
-    let k = weights s.zero s.one s.plus s.times c.args.weights.now.low.now c.args.weights.now.high.now in
+    let k = weighing s.operations c.args.weights.now in
     let bank = c.args.bank.now in
     let f = node_sum k bank.width bank.rows.now in
     let roomy = had_room _ c.in_ok-column.ensures.answer in
@@ -19,7 +20,7 @@ through-requires-clause-known g c =
 pub returns : goal.returns
 returns g c =
     let s = g.S.Semiring in
-    let k = weights s.zero s.one s.plus s.times c.args.weights.now.low.now c.args.weights.now.high.now in
+    let k = weighing s.operations c.args.weights.now in
     let bank = c.args.bank.now in
     let root = rooted bank.roots.items c.args.rule _ c.in_ok-root.ensures.answer in
     let known = root.0 in

@@ -1,11 +1,11 @@
 use Rattle.std.proofs.Common.{◌<◌, length, None, Some, arith, below_more}
 use Rattle.trail.specs.View.{trail_of, store_of}
-use Rattle.search.proofs.Looks.{small, learnt_told, asks_bank, asks_learnt, calm}
+use Rattle.search.proofs.Looks.{ready, learnt_told, asks_bank, asks_learnt, calm}
 use Rattle.search.proofs.search.Search.propagate.Goals as goal
 
-pub ask-requires-clause-small : goal.ask-requires-clause-small
-ask-requires-clause-small g c =
-    small (g.B.RuleBank.meaning c.args.b.now) (g.B.RuleBank.duties c.args.b.now) (trail_of c.args.self.now.trail.entries) c.values-values.result c.values-values.ensures (store_of c.args.self.now.learnt)
+pub ask-requires : goal.ask-requires
+ask-requires g c =
+    ready (g.B.RuleBank.meaning c.args.b.now) (g.B.RuleBank.duties c.args.b.now) (trail_of c.args.self.now.trail.entries) c.values-values.result c.values-values.ensures (store_of c.args.self.now.learnt) c.loop-rule.rule (omega (arith, c.count-rule-end.ensures))
 
 pub returns-in-Some : goal.returns-in-Some
 returns-in-Some g c = λ i.

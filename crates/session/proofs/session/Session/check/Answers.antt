@@ -1,5 +1,4 @@
-use Rattle.std.proofs.Common.{◌&&◌, take, Ok, refl, sym, ap, ◌∙◌}
-use Rattle.session.specs.Checking.{keeps}
+use Rattle.std.proofs.Common.{◌&&◌, Ok, sym, ap, ◌∙◌}
 use Rattle.session.proofs.Checked.{checked}
 use Rattle.session.proofs.session.Session.check.Goals as goal
 
@@ -8,9 +7,3 @@ returns-then-meets_rules g c =
     let k = c.keeps_picks.result in
     sym (ap (λ b. Ok (b && k)) c.if-meets_rules.true)
     ∙ checked (g.B.RuleBank.meaning c.args.self.now.bank) c.args.self.now.picks c.args.build c.width-width.result c.meets_rules.result k c.width-width.ensures c.if-not-values_up_to.ensures c.meets_rules.ensures c.keeps_picks.ensures
-
-pub returns-else-meets_rules : goal.returns-else-meets_rules
-returns-else-meets_rules g c =
-    let k = keeps c.args.self.now.picks (take c.width-width.result c.args.build) in
-    ap Ok c.if-meets_rules.false ∙ sym (ap (λ b. Ok (b && k)) c.if-meets_rules.false)
-    ∙ checked (g.B.RuleBank.meaning c.args.self.now.bank) c.args.self.now.picks c.args.build c.width-width.result c.meets_rules.result k c.width-width.ensures c.if-not-values_up_to.ensures c.meets_rules.ensures refl

@@ -1,14 +1,15 @@
 use Rattle.std.proofs.Common.{◌≡◌, ◌+◌, ◌<◌, length, sym, refl, ◌∙◌, arith, length-set}
 use Rattle.std.proofs.lemmas.List.{drop-set-lt}
-use Rattle.diagram_theory.specs.Semirings.{weights, node_sum}
+use Rattle.diagram_theory.specs.Semirings.{node_sum}
 use Rattle.diagram_theory.proofs.Steps.{end_zero, end_one}
 use Rattle.diagram_theory.proofs.Columns.{filled_two, filled_more, filled_all, drop_two}
+use Rattle.sweeps.specs.Weighing.{weighing}
 use Rattle.sweeps.proofs.weights.Weighed.fill.Goals as goal
 
 pub loop-r-init : goal.loop-r-init
 loop-r-init g c =
     let s = g.S.Semiring in
-    let k = weights s.zero s.one s.plus s.times c.args.self.now.weights.now.low.now c.args.self.now.weights.now.high.now in
+    let k = weighing s.operations c.args.self.now.weights.now in
     let bank = c.args.self.now.bank.now in (
       filled_two (node_sum k bank.width bank.rows.now) c.args.places.now _ _ (omega arith)
           (c.zero.ensures ∙ sym (end_zero s.valid k s.laws bank.width bank.rows.now bank.used bank.lawful))
@@ -19,7 +20,7 @@ loop-r-init g c =
 pub loop-r-preserved : goal.loop-r-preserved
 loop-r-preserved g c =
     let s = g.S.Semiring in
-    let k = weights s.zero s.one s.plus s.times c.args.self.now.weights.now.low.now c.args.self.now.weights.now.high.now in
+    let k = weighing s.operations c.args.self.now.weights.now in
     let bank = c.args.self.now.bank.now in
     let long : length c.loop-r.places ≡ length c.args.places.now = simp length-set at c.loop-r.auto.places in
     let room : c.loop-r.r + 2 < length c.loop-r.places = omega arith in (
@@ -30,7 +31,7 @@ loop-r-preserved g c =
 pub returns : goal.returns
 returns g c =
     let s = g.S.Semiring in
-    let k = weights s.zero s.one s.plus s.times c.args.self.now.weights.now.low.now c.args.self.now.weights.now.high.now in
+    let k = weighing s.operations c.args.self.now.weights.now in
     let bank = c.args.self.now.bank.now in
     let long : length c.loop-r.places ≡ length c.args.places.now = simp length-set at c.loop-r.auto.places in
     filled_all (node_sum k bank.width bank.rows.now) c.loop-r.places c.args.places.now (bank.used + 2) (omega arith)

@@ -1,5 +1,5 @@
-use Rattle.diagram_theory.specs.Semirings.{weights}
 use Rattle.diagram_theory.proofs.Jumps.{node_turn}
+use Rattle.sweeps.specs.Weighing.{weighing}
 use Rattle.sweeps.proofs.weights.Weighed.node_result.Goals as goal
 
 pub returns : goal.returns
@@ -7,7 +7,7 @@ returns g c =
     let s = g.S.Semiring in
     let bank = c.args.self.now.bank.now in
     let weighed = c.args.self.now in
-    let k = weights s.zero s.one s.plus s.times weighed.weights.now.low.now weighed.weights.now.high.now in
+    let k = weighing s.operations weighed.weights.now in
     node_turn s.valid k s.laws bank.width bank.rows.now bank.used bank.lawful
     c.args.r c.requires.row weighed.wide.0 weighed.wide.1
     _ _ _ _ _ _ _ c.through-by_low.ensures c.through-by_high.ensures

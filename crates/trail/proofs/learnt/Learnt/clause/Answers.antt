@@ -1,13 +1,8 @@
-use Rattle.std.proofs.Common.{[], length, sym, ap, ◌∙◌, arith}
-use Rattle.std.proofs.lemmas.List.{get_or_past}
+use Rattle.std.proofs.Common.{length, ap, ◌∙◌, arith}
 use Rattle.arrayvec.specs.ArrayVec.{array_vec_len}
 use Rattle.clauses.specs.Literals.{numbers}
-use Rattle.trail.specs.Ring.{ring}
 use Rattle.trail.proofs.Rings.{ring_length, ring_read, slot_below}
 use Rattle.trail.proofs.learnt.Learnt.clause.Goals as goal
-
-pub returns-then-age-len : goal.returns-then-age-len
-returns-then-age-len c = let s = c.args.self.now in sym (get_or_past (ring s.next s.clauses) c.args.age [] (omega arith))
 
 pub overflow_sub-self : goal.overflow_sub-self
 overflow_sub-self c = let s = c.args.self.now in omega (arith, s.sized.0, ring_length s.next s.clauses)

@@ -1,7 +1,0 @@
-use Rattle.std.proofs.Common.{refl}
-use Rattle.layer_theory.proofs.Paired.{pair_exact}
-use Rattle.layer_theory.proofs.Placed.{placed_law}
-use Rattle.layers.proofs.pair.Pair.new.Goals as goal
-
-pub returns : goal.returns
-returns g c = record { parts = (refl, refl); placed = placed_law; exact = pair_exact }

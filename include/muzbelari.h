@@ -19,7 +19,7 @@ extern "C" {
 /* What both calls ask of their caller: a pointer is not null unless its length is 0, it points to as many bytes as its length
  * says, and what a call writes (the listing, the place) does not overlap what it reads. Everything else that can be passed is
  * handled: any bytes, any lengths, any budget. Nothing is allocated and nothing is kept between calls, so any number of threads
- * may call at once. A call needs up to 256 KiB of stack. */
+ * may call at once. A call needs up to 128 KiB of stack. */
 
 /* Reads the rules and the picks, searches for the first build with at most `budget` steps (up to 2^62), and writes the listing.
  * Returns how many bytes it wrote; 0 means that the listing space is under MUZBELARI_LISTING bytes, and nothing was written.

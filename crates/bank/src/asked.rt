@@ -1,5 +1,5 @@
 // The refusals of `mark`, tested once for every kind of bank.
-ghost use Rattle.std.specs.Prelude.{◌≡◌, ℕ, ◌<◌, ◌≤◌, Bool, true, ◌&&◌, List, length, take, OnOk, nat_le};
+ghost use Rattle.std.specs.Prelude.{◌≡◌, ◌&&◌, length, take, OnOk, nat_le};
 ghost use Rattle.builds.specs.Values.{up_to};
 ghost use Rattle.bank.specs.Marking.{mark_cause, Ready};
 ghost use Rattle.bank.specs.Asked.{cause_of};
@@ -10,11 +10,12 @@ use crate::refusal::Refusal;
 pub fn values_up_to(values: &[u8], w: usize, most: u8) -> bool
     ensures { result ≡ (nat_le w (length values.now) && up_to most (take w values.now)) }
 {
-    // no early way out: without one the compiler tests sixteen values at a time
+    // the greatest of them, and no early way out: so the compiler takes sixteen values at a time
     w <= values.len()
         && values[..w]
             .iter()
-            .fold(true, |small, value| small & (*value <= most))
+            .fold(0u8, |greatest, value| greatest.max(*value))
+            <= most
 }
 
 // Why a bank of `width` options and `count` rules refuses to mark, if it does.

@@ -26,12 +26,12 @@ meets_push (k ∷ ls) l b = ap (λ t. literal_meets k b || t) (meets_push ls l b
 pub num_wants : (l : ℕ) → num (wants l) ≡ l % 2
 num_wants l = grind (arith, nat_tests)
 
-same_is : (x y : Bool) → y ≡ x → same x y ≡ true
+pub same_is : (x y : Bool) → y ≡ x → same x y ≡ true
 same_is true y e = e
 same_is false true e = absurd (both_ways true e refl)
 same_is false false e = refl
 
-same_not : (x y : Bool) → y ≡ not x → same x y ≡ false
+pub same_not : (x y : Bool) → y ≡ not x → same x y ≡ false
 same_not true y e = e
 same_not false y e = rw e
 
@@ -66,7 +66,7 @@ module _ (w : ℕ) (v : List ℕ) (sized : length v ≡ w) (small : up_to 2 v �
     pub fit : fits v b ≡ true
 
   -- what is left tells of the literals that were scanned
-  abbrev Told : List ℕ → Left → Type 0
+  abbrev pub Told : List ℕ → Left → Type 0
   Told ls Nothing = (b : Build) → length b ≡ w → fits v b ≡ true → clause_meets ls b ≡ false
   Told ls (One l) = Open (l.number / 2) × ((b : Build) → length b ≡ w → fits v b ≡ true → clause_meets ls b ≡ literal_meets l.number b)
   Told ls Free = ((b : Build) × Fitting w (clause_meets ls) v b) × ((o : ℕ) (x : Bool) → Open o → (b : Build) × Fitting w (clause_meets ls) v b × (bit b o ≡ x))
@@ -103,31 +103,35 @@ module _ (w : ℕ) (v : List ℕ) (sized : length v ≡ w) (small : up_to 2 v �
   meeting ls b f e = record { long = f.long; fit = f.fit; met = e }
 
   -- every open option is free where each fitting build meets the literals
-  met_free : (ls : List ℕ) → ((b : Build) → Agrees b → clause_meets ls b ≡ true) → Told ls Free
+  pub met_free : (ls : List ℕ) → ((b : Build) → Agrees b → clause_meets ls b ≡ true) → Told ls Free
   met_free ls all = (
     (bits v, meeting ls (bits v) plain (all (bits v) plain)),
     λ o x h. let b = one_more o x h in (b.0, meeting ls b.0 b.1 (all b.0 b.1), b.2),
   )
 
-  -- and where two open literals differ
+  -- and where two open literals differ, either of which meets them
+  pub two_met : (ls : List ℕ) (k l : ℕ) → Open (k / 2) → Open (l / 2) → k ≢ l → ((b : Build) → Agrees b → bit b (k / 2) ≡ wants k → clause_meets ls b ≡ true)
+      → ((b : Build) → Agrees b → bit b (l / 2) ≡ wants l → clause_meets ls b ≡ true) → Told ls Free
+  two_met ls k l hk hl ne by-k by-l = (
+    (let b = one_more (l / 2) (wants l) hl in (b.0, meeting ls b.0 b.1 (by-l b.0 b.1 b.2))),
+    λ o x h. elim (cases_eq (l / 2) o) [
+      | inr d ↦ (let b = two_more o x (l / 2) (wants l) h hl d in (b.0, meeting ls b.0 b.1 (by-l b.0 b.1 b.3), b.2))
+      | inl d ↦ elim (cases_eq (k / 2) o) [
+        | inr e ↦ (let b = two_more o x (k / 2) (wants k) h hk e in (b.0, meeting ls b.0 b.1 (by-k b.0 b.1 b.3), b.2))
+        | inl e ↦ (let b = one_more o x h in
+            let q : (x ≡ wants k) ⊎ (x ≡ wants l) = one_of x (wants k) (wants l) (λ z. ne (same_number k l (e ∙ sym d) z)) in
+            elim q [
+              | inl z ↦ (b.0, meeting ls b.0 b.1 (by-k b.0 b.1 (ap (bit b.0) e ∙ b.2 ∙ z)), b.2)
+              | inr z ↦ (b.0, meeting ls b.0 b.1 (by-l b.0 b.1 (ap (bit b.0) d ∙ b.2 ∙ z)), b.2)
+            ])
+      ]
+    ],
+  )
+
   two_free : (ls : List ℕ) (k l : ℕ) → Open (k / 2) → Open (l / 2) → k ≢ l → ((b : Build) → Agrees b → clause_meets ls b ≡ (literal_meets k b || literal_meets l b)) → Told ls Free
-  two_free ls k l hk hl ne eq =
-      let by-k : (b : Build) → Agrees b → bit b (k / 2) ≡ wants k → clause_meets ls b ≡ true = λ b f e. eq b f ∙ or_left _ _ (same_is (wants k) _ e) in
-      let by-l : (b : Build) → Agrees b → bit b (l / 2) ≡ wants l → clause_meets ls b ≡ true = λ b f e. eq b f ∙ or_right (literal_meets k b) (literal_meets l b) (same_is (wants l) _ e) in (
-        (let b = one_more (l / 2) (wants l) hl in (b.0, meeting ls b.0 b.1 (by-l b.0 b.1 b.2))),
-        λ o x h. elim (cases_eq (l / 2) o) [
-          | inr d ↦ (let b = two_more o x (l / 2) (wants l) h hl d in (b.0, meeting ls b.0 b.1 (by-l b.0 b.1 b.3), b.2))
-          | inl d ↦ elim (cases_eq (k / 2) o) [
-            | inr e ↦ (let b = two_more o x (k / 2) (wants k) h hk e in (b.0, meeting ls b.0 b.1 (by-k b.0 b.1 b.3), b.2))
-            | inl e ↦ (let b = one_more o x h in
-                let q : (x ≡ wants k) ⊎ (x ≡ wants l) = one_of x (wants k) (wants l) (λ z. ne (same_number k l (e ∙ sym d) z)) in
-                elim q [
-                  | inl z ↦ (b.0, meeting ls b.0 b.1 (by-k b.0 b.1 (ap (bit b.0) e ∙ b.2 ∙ z)), b.2)
-                  | inr z ↦ (b.0, meeting ls b.0 b.1 (by-l b.0 b.1 (ap (bit b.0) d ∙ b.2 ∙ z)), b.2)
-                ])
-          ]
-        ],
-      )
+  two_free ls k l hk hl ne eq = two_met ls k l hk hl ne
+      (λ b f e. eq b f ∙ or_left _ _ (same_is (wants k) _ e))
+      (λ b f e. eq b f ∙ or_right (literal_meets k b) (literal_meets l b) (same_is (wants l) _ e))
 
   -- literals that mean the same leave the same
   told_same : (ls ks : List ℕ) (s : Left) → ((b : Build) → Agrees b → clause_meets ks b ≡ clause_meets ls b) → Told ls s → Told ks s
@@ -178,7 +182,7 @@ module _ (w : ℕ) (v : List ℕ) (sized : length v ≡ w) (small : up_to 2 v �
       let c = free true (l, z) in
       z ∙ sym (mark_both w p v o b.0 c.0 b.1 b.2 c.1 c.2)
 
-  says_told : (ls : List ℕ) (s : Left) → Told ls s → answer_of w (clause_meets ls) v ≡ clause_says v s
+  pub says_told : (ls : List ℕ) (s : Left) → Told ls s → answer_of w (clause_meets ls) v ≡ clause_says v s
   says_told ls Nothing t = answer_dead w (clause_meets ls) v t
   says_told ls Free t = answer_live w (clause_meets ls) v v t.0.0 t.0.1 sized (λ o l. elim (cases_lt (get_or v o 0) 2) [
     | inl k ↦ valued w (clause_meets ls) v sized t.0.0 t.0.1 o l k

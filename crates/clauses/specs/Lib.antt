@@ -4,3 +4,4 @@ pub mod Scan
 pub mod Table
 pub mod Opening
 pub mod Meaning
+pub mod TwoSets

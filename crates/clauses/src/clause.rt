@@ -6,7 +6,7 @@ use crate::literal::Literal;
 use std::marker::Model;
 
 // The first `len` of the literals are the clause's.
-// A byte beside the array, since memory is fixed: an ArrayVec's length takes eight, and a quote's 700 clauses 5 KiB more.
+// A byte beside the array, since memory is fixed: an ArrayVec's length takes eight, and a table's 512 clauses 4 KiB more.
 #[derive(Default, Drop)]
 pub struct Clause<const N: usize> {
     len: u8,

@@ -1,12 +1,14 @@
-// The clause kind of rule: a table of clauses behind the rule bank's interface, and the scan that serves learnt clauses too.
+// The clause kind of rule: a table of clauses behind the rule bank's interface, and clauses as two sets of options, as a search learns them.
 #![tactic(auto)]
 
-pub mod clause;
+mod clause;
 pub mod left;
 mod limits;
 pub mod literal;
 mod mark;
 pub mod opening;
-pub mod rules;
-pub mod scan;
+mod rules;
+mod scan;
+pub mod set_clause;
 pub mod table;
+pub mod value_sets;

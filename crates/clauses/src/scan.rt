@@ -1,4 +1,4 @@
-// Scans a clause under a values table. The kernel of the clause bank, and of learnt clauses, which no bank holds.
+// Scans a clause under a values table: the kernel of the clause bank.
 ghost use Rattle.std.specs.Prelude.{◌≡◌, ℕ, ◌≤◌, true, length, take, slice_index_or};
 ghost use Rattle.builds.specs.Values.{up_to};
 ghost use Rattle.builds.specs.Answers.{answer_of};

@@ -1,4 +1,4 @@
-// Exact marks of one rule: a yes/no sweep from the ends says whether it is live and which nodes are, and the way down what it forces.
+// Exact marks of one rule: a pass from the ends says whether it is live and which nodes are, and the way down from its root what it forces.
 ghost use Rattle.std.specs.Prelude.{◌≡◌, ◌<◌, length, Ok};
 ghost use Rattle.builds.specs.Answers.{answer_of};
 ghost use Rattle.bank.specs.Numbers.{numbered};
@@ -7,12 +7,10 @@ ghost use Rattle.diagram_theory.specs.Rules.{rule_meets};
 
 use crate::descent::Descent;
 use crate::found::Found;
-use crate::value_weights::value_weights;
+use crate::live_nodes::live_nodes;
 use bank::refusal::{Answer, Refusal};
 use diagrams::table::Diagrams;
 use sweeps::root::root_of;
-use sweeps::sweep::sweep;
-use sweeps::weights::{Weighed, Weights};
 
 // Marks a rule of the table. `values` and `marks` are the options' places, no more and no less.
 pub(crate) fn mark_rule(
@@ -27,26 +25,20 @@ pub(crate) fn mark_rule(
     ensures after { marks.new ≡ noted (answer_of bank.now.width (rule_meets bank.now.rows.now bank.now.roots.items rule) values.now) marks.old }
 {
     let root = root_of(bank, rule)?;
-    let (low, high) = value_weights(values);
-    let allowed = Weights {
-        low: &low,
-        high: &high,
-    };
-    let mut live = [false; 2050];
-    let alive = sweep(bank, rule, &allowed, &mut live)?;
-    if !alive {
+    // arrows lead to smaller nodes, so no row after the root's own is met
+    let row_count = root.saturating_sub(1);
+    let live = live_nodes(bank, row_count, values);
+    if !live[root] {
         return Ok(Answer::Dead);
     }
-    let weighed = Weighed {
-        bank,
-        weights: &allowed,
-    };
     let descent = Descent {
-        weighed,
+        bank,
+        row_count,
+        values,
         live: &live,
     };
     let mut found = Found::nothing();
     descent.from_root(root, &mut found);
-    found.write_marks(marks);
+    found.write_marks(values, marks);
     Ok(Answer::Live)
 }

@@ -1,9 +1,9 @@
 -- Single writes, as `Marked` and `Freed` say them.
-use Rattle.std.proofs.Common.{◌≡◌, ℕ, zero, suc, ◌+◌, ◌<◌, ◌≤◌, Bool, true, false, cond, ◌||◌, eqb, List, length, map, get_or, set, replicate, sym, refl, ap, ◌∙◌, inl, inr, arith, tests}
+use Rattle.std.proofs.Common.{◌≡◌, ℕ, zero, suc, ◌<◌, Bool, true, false, cond, ◌||◌, eqb, List, length, map, get_or, set, replicate, sym, refl, ap, ◌∙◌, inl, inr, arith, tests}
 use Rattle.std.proofs.lemmas.List.{get_or-set_same, get_or-set_other, get_or-map, map-set, length-map}
 use Rattle.std.proofs.lemmas.Bool.{cases_eq}
 use Rattle.builds.specs.Values.{allows}
-use Rattle.diagram_theory.specs.Seen.{Marked, Freed}
+use Rattle.diagram_theory.specs.Seen.{Marked}
 
 marked_set : (on : Bool) (c : ℕ) (xs : List Bool) (y : Bool) → c < length xs → y ≡ (get_or xs c false || on) → Marked on c xs (set xs c y)
 marked_set on c xs y h e n = elim (cases_eq n c) [
@@ -13,10 +13,6 @@ marked_set on c xs y h e n = elim (cases_eq n c) [
 
 pub marked_true : (c : ℕ) (xs : List Bool) → c < length xs → Marked true c xs (set xs c true)
 marked_true c xs h = marked_set true c xs true h (grind (arith, tests))
-
--- one option more
-pub freed_seen : (from j : ℕ) (al old now new : List Bool) → from ≤ j → Freed true from j al old now → Marked (get_or al j false) j now new → Freed true from (j + 1) al old new
-freed_seen from j al old now new h f m o = grind (arith, tests, f o, m o)
 
 -- one truth value of an element is true too, if on
 pub marked_field : {A : Type 0} (f : A → Bool) (on : Bool) (c : ℕ) (xs : List A) (y d : A) → c < length xs → f y ≡ (f (get_or xs c d) || on) → Marked on c (map f xs) (map f (set xs c y))

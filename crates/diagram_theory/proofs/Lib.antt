@@ -1,6 +1,8 @@
 pub mod Within
 pub mod Steps
 pub mod Jumps
+pub mod Passing
+pub mod Jumping
 pub mod Columns
 pub mod Reached
 pub mod Lives

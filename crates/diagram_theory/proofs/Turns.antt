@@ -1,7 +1,7 @@
 -- One row of the way down: what is reached and seen stays sound and whole.
 use Rattle.std.proofs.Common.{◌≡◌, ℕ, suc, ◌+◌, ◌<◌, ◌≤◌, Bool, true, false, cond, ◌&&◌, ltb, ◌⊎◌, List, length, get_or, sym, refl, ap, ◌∙◌, subst, inl, inr, arith, tests}
 use Rattle.std.proofs.lemmas.List.{get_or_default}
-use Rattle.std.proofs.lemmas.Bool.{and_parts, and_from, cases_eq, cases_order, lt-ltb, ltb-true}
+use Rattle.std.proofs.lemmas.Bool.{and_parts, and_from, both_ways, cases_eq, cases_order, lt-ltb, ltb-true}
 use Rattle.diagrams.specs.declared.row.Row.{Row}
 use Rattle.diagrams.specs.Rows.{row_at, option_of, Lawful}
 use Rattle.diagrams.specs.Walk.{ends}
@@ -227,6 +227,15 @@ module _ (w : ℕ) (rows : List Row) (used : ℕ) (ok : Lawful w rows used) (low
       met.met,
       λ o p q. free_is o (x o) ∙ and_from _ _ (lt-ltb o (option_of w rows root) p) (sym (can_is o (x o) q) ∙ met.fit o q),
     )
+
+  -- a row that is not reached is passed over
+  pub skip_whole : (down zs os : List Bool) (r : ℕ) → get_or down (r + 2) false ≡ false → Whole w rows lows highs root down zs os (r + 1) → Whole w rows lows highs root down zs os r
+  skip_whole down zs os r off whole x met =
+      let (n, lt, dn, en, sn) = whole x met in
+      elim (cases_eq n (r + 2)) [
+        | inl e ↦ absurd (both_ways _ (ap (λ i. get_or down i false) e ∙ off) dn)
+        | inr ne ↦ (n, omega arith, dn, en, sn)
+      ]
 
   -- at the end all that meets the root is seen
   pub ended : (down zs os : List Bool) → Whole w rows lows highs root down zs os 0 → (o : ℕ) (z : Bool) → o < w → Occ w rows lows highs root o z → get_or (cond z os zs) o false ≡ true

@@ -1,5 +1,5 @@
 // Filling a bank row by row and root by root, as a reader of lines does. What is refused leaves the bank as it stood.
-ghost use Rattle.std.specs.Prelude.{◌≡◌, ◌+◌, ◌<◌, [], ◌∷◌, ◌++◌, length, set, OnErr, OnOk, slice_set};
+ghost use Rattle.std.specs.Prelude.{◌≡◌, ◌+◌, ◌<◌, [], ◌∷◌, ◌++◌, length, OnErr, OnOk, slice_set};
 ghost use Rattle.bank.specs.Numbers.{located};
 ghost use Rattle.diagrams.specs.Rows.{RowLawful};
 ghost use Rattle.diagrams.specs.Causes.{room_of, row_cause, root_cause};

@@ -1,5 +1,5 @@
 // Opening a table: the whole of it is checked first, so that a refusal leaves the bank as it stood.
-ghost use Rattle.std.specs.Prelude.{◌≡◌, ℕ, ◌+◌, ◌<◌, ◌≤◌, [], ◌∷◌, ◌++◌, length, OnErr, OnOk, slice_index};
+ghost use Rattle.std.specs.Prelude.{◌≡◌, ℕ, ◌+◌, ◌<◌, ◌≤◌, [], length, OnErr, OnOk, slice_index};
 ghost use Rattle.bank.specs.Numbers.{located};
 ghost use Rattle.diagrams.specs.Rows.{Lawful};
 ghost use Rattle.diagrams.specs.Roots.{RootedAll, ReachingAll};

@@ -1,5 +1,5 @@
 // Which options a root reads. Arrows lead to smaller nodes, so the sets of all nodes are worked out once, from below.
-ghost use Rattle.std.specs.Prelude.{◌≡◌, ℕ, ◌+◌, ◌<◌, ◌≤◌, ◌||◌, length, ◌==◌};
+ghost use Rattle.std.specs.Prelude.{◌≡◌, ℕ, ◌+◌, ◌<◌, ◌≤◌, ◌||◌, ◌==◌};
 ghost use Rattle.option_set.specs.Sets.{member};
 ghost use Rattle.diagrams.specs.Reach.{reaches};
 ghost use Rattle.diagrams.specs.Reading.{node_set};

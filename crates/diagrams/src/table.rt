@@ -1,6 +1,6 @@
 // The diagram bank: rows in memory that the caller lends, and the roots, of which each is a rule.
 // What every table keeps stands in the type: no bank in hand has an arrow that breaks the rules, whoever writes its fields.
-ghost use Rattle.std.specs.Prelude.{◌≡◌, ℕ, ◌<◌, ◌≤◌, length, get_or};
+ghost use Rattle.std.specs.Prelude.{◌≡◌, ◌<◌, ◌≤◌, length};
 ghost use Rattle.diagrams.specs.Rows.{Lawful};
 ghost use Rattle.diagrams.specs.Roots.{RootedAll, ReachingAll};
 ghost use Rattle.diagrams.specs.Causes.{room_of};

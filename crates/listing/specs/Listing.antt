@@ -4,6 +4,7 @@ use Rattle.builds.specs.Builds.{Build}
 use Rattle.builds.specs.Values.{num}
 use Rattle.fields.specs.Field.{field_of}
 use Rattle.texts.specs.Faults.{Fault}
+use Rattle.texts.specs.Causes.{line_told}
 
 -- one option's line: the option and its value
 abbrev pub option_line : ℕ → ℕ → List ℕ
@@ -32,7 +33,7 @@ abbrev pub spent_line : List ℕ
 spent_line = 66 ∷ 10 ∷ []
 
 abbrev pub fault_line : Fault → List ℕ
-fault_line f = 70 ∷ (field_of f.text ++ (field_of f.layer ++ (field_of f.line ++ (field_of f.number ++ (10 ∷ [])))))
+fault_line f = 70 ∷ (field_of f.text ++ (field_of f.layer ++ (field_of (line_told f.line) ++ (field_of f.number ++ (10 ∷ [])))))
 
 -- up to 128 values have room, with 14 bytes to a line
 abbrev pub build_fits : List ℕ → List ℕ → Bool
@@ -40,7 +41,7 @@ build_fits values old = nat_le (length values) 128 && nat_le (14 * length values
 
 -- a line number has six columns, and the F line 26 bytes
 abbrev pub fault_fits : Fault → List ℕ → Bool
-fault_fits f old = nat_lt f.line 1000000 && nat_le 26 (length old)
+fault_fits f old = nat_lt (line_told f.line) 1000000 && nat_le 26 (length old)
 
 -- bytes in front, and the rest as it was; nothing where they have no room
 abbrev pub written : Bool → List ℕ → List ℕ → List ℕ

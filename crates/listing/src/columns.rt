@@ -22,8 +22,8 @@ pub(crate) fn put_field(listing: &mut [u8], at: usize, number: u32)
     ensures { listing.new ≡ put_at at (field_of number) listing.old }
 {
     let end = at + COLUMNS;
-    // six bytes, and six digits at most: never refused
-    let _ = write_field(number, &mut listing[at..end]);
+    // six bytes, and six digits at most
+    write_field(number, &mut listing[at..end]).unwrap();
 }
 
 // A letter and two fields, and the LF.

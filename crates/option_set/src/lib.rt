@@ -4,7 +4,7 @@
 
 ghost use Rattle.std.specs.Prelude.{◌≡◌, ℕ, ◌-◌, ◌<◌, false, not, ◌&&◌, ◌||◌, ◌==◌, nat_le, nat_lt};
 ghost use Rattle.std.specs.List.{list_any};
-ghost use Rattle.option_set.specs.Sets.{member, some_member};
+ghost use Rattle.option_set.specs.Sets.{member, some_member, LowestOf, OnlyOf};
 
 // What is of one option, as a literal is.
 pub trait OfOption {
@@ -126,5 +126,42 @@ impl OptionSet {
         ensures { result ≡ not (some_member 128 self.members) }
     {
         self.members == 0
+    }
+
+    // The set without the option.
+    pub fn remove(self, option: usize) -> OptionSet
+        ensures { (o : ℕ) → o < 128 → member result.members o ≡ (not (o == option) && member self.members o) }
+    {
+        self.without(OptionSet::empty().insert(option))
+    }
+
+    // The lowest option of the set.
+    pub fn lowest(self) -> Option<usize>
+        ensures { LowestOf self.members result }
+    {
+        if self.is_empty() {
+            return None;
+        }
+        Some(self.members.trailing_zeros() as usize)
+    }
+
+    // The set without its lowest option: those stay that have another below them.
+    // A number less one has the lowest 1 cleared, and all above it as it was.
+    pub fn without_lowest(self) -> OptionSet
+        ensures { (o : ℕ) → member result.members o ≡ (member self.members o && some_member o self.members) }
+    {
+        OptionSet {
+            members: self.members & self.members.wrapping_sub(1),
+        }
+    }
+
+    // The option of a set that has just one.
+    pub fn only(self) -> Option<usize>
+        ensures { OnlyOf self.members result }
+    {
+        if self.without_lowest().is_empty() {
+            return self.lowest();
+        }
+        None
     }
 }

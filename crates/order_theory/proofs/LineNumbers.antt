@@ -1,9 +1,10 @@
 -- A fault's line has a number that a field can show: a text has no more lines than bytes.
-use Rattle.std.proofs.Common.{◌≡◌, ℕ, ◌^◌, ◌<◌, ◌≤◌, eqb, ltb, List, length, Ok, Err, Result, refl, subst, arith}
+use Rattle.std.proofs.Common.{◌≡◌, ℕ, ◌^◌, ◌<◌, ◌≤◌, eqb, ltb, List, length, Some, None, Ok, Err, Result, refl, subst, arith}
 use Rattle.std.proofs.lemmas.Bool.{cond_both, ltb-false}
 use Rattle.lines.specs.Lines.{Line, lines_of}
 use Rattle.lines.proofs.Parts.{lines_few}
-use Rattle.texts.specs.Faults.{Layered, Fault, at_line, line_fault}
+use Rattle.texts.specs.Faults.{Layered, Fault, at_line, line_fault, session_fault}
+use Rattle.texts.specs.Causes.{line_told}
 use Rattle.texts.specs.Reading.{read_lines}
 use Rattle.texts.proofs.Reading.{fault_line}
 use Rattle.rule_text.specs.Catalogue.{Catalogue, no_catalogue}
@@ -16,9 +17,9 @@ use Rattle.order_theory.specs.Orders.{both_texts}
 -- a fault is at most at this line
 abbrev UpTo : {X : Type 0} → ℕ → Result X Fault → Type 0
 UpTo m (Ok x) = Unit {0}
-UpTo m (Err f) = f.line ≤ m
+UpTo m (Err f) = line_told f.line ≤ m
 
-up_to : {X : Type 0} (m : ℕ) (r : Result X Fault) → ((f : Fault) → r ≡ Err f → f.line ≤ m) → UpTo m r
+up_to : {X : Type 0} (m : ℕ) (r : Result X Fault) → ((f : Fault) → r ≡ Err f → line_told f.line ≤ m) → UpTo m r
 up_to m (Ok x) h = tt
 up_to m (Err f) h = h f refl
 
@@ -26,7 +27,7 @@ lines_up : {X : Type 0} (m text : ℕ) (step : X → Line → Result X Layered) 
 lines_up m text step x ls l = up_to m (read_lines text step 1 x ls) (λ f e. let h = fault_line text step 1 x ls f e in omega arith)
 
 rules_up : (m : ℕ) (r : Result Catalogue Fault) → 1 ≤ m → UpTo m r → UpTo m (if_read r)
-rules_up m (Ok k) a h = cond_both (eqb k.stage 0) (Err (at_line 1 1 (line_fault 21))) (Ok k) (UpTo m) (λ _. a) (λ _. tt)
+rules_up m (Ok k) a h = cond_both (eqb k.stage 0) (Err (at_line 1 (Some 1) (line_fault 21))) (Ok k) (UpTo m) (λ _. a) (λ _. tt)
 rules_up m (Err f) a h = h
 
 ordered_up : (m : ℕ) (k : Catalogue) (r : Result (List ℕ) Fault) → UpTo m r → UpTo m (ordered k r)
@@ -46,12 +47,12 @@ both_up rules picks a b =
 order_up : (rules picks : List ℕ) (budget : ℕ) → UpTo 49152 (order_of rules picks budget)
 unfolding order_of
 order_up rules picks budget =
-    cond_both (ltb (2 ^ 62) budget) (Err (record { text = 0; layer = 3; line = 0; number = 5 })) _ (UpTo 49152) (λ _. omega arith) (λ _.
-    cond_both (ltb 49152 (length rules)) (Err (record { text = 1; layer = 1; line = 0; number = 24 })) _ (UpTo 49152) (λ _. omega arith) (λ a.
-    cond_both (ltb 4096 (length picks)) (Err (record { text = 2; layer = 1; line = 0; number = 24 })) (both_texts rules picks) (UpTo 49152) (λ _. omega arith) (λ b.
+    cond_both (ltb (2 ^ 62) budget) (Err (at_line 0 None (session_fault 5))) _ (UpTo 49152) (λ _. omega arith) (λ _.
+    cond_both (ltb 49152 (length rules)) (Err (at_line 1 None (line_fault 24))) _ (UpTo 49152) (λ _. omega arith) (λ a.
+    cond_both (ltb 4096 (length picks)) (Err (at_line 2 None (line_fault 24))) (both_texts rules picks) (UpTo 49152) (λ _. omega arith) (λ b.
     let p = ltb-false 49152 (length rules) a in
     let q = ltb-false 4096 (length picks) b in
     both_up rules picks p (omega arith))))
 
-pub line_small : (rules picks : List ℕ) (budget : ℕ) (f : Fault) → order_of rules picks budget ≡ Err f → f.line < 1000000
+pub line_small : (rules picks : List ℕ) (budget : ℕ) (f : Fault) → order_of rules picks budget ≡ Err f → line_told f.line < 1000000
 line_small rules picks budget f e = let h = subst (UpTo 49152) e (order_up rules picks budget) in omega arith

@@ -9,17 +9,9 @@ use Rattle.search_theory.specs.Runs.{no_picks}
 use Rattle.texts.specs.Reading.{read_lines}
 use Rattle.texts.proofs.Reading.{lines_keep}
 use Rattle.pick_text.specs.PickLines.{picked, read_pick}
-use Rattle.search_theory.specs.Trails.{unset, Point}
-use Rattle.search_theory.specs.Calls.{State}
 use Rattle.search_theory.specs.Held.{PicksOk}
-use Rattle.search_theory.proofs.Kept.{kept_set, new_ok}
+use Rattle.search_theory.proofs.Kept.{kept_set, no_picks_ok}
 use Rattle.bank.specs.Banks.{Bank}
-
-none_ok : (B : Bank) → PicksOk B no_picks
-none_ok B =
-    let p : Point = record { trail = λ i. unset; depth = 0; store = [] } in
-    let s : State = record { picks = no_picks; point = p; searching = false } in
-    (new_ok B s (record { picks = refl; store = refl; searching = refl })).picks
 
 module _ (B : Bank) where
   -- a table that was read, unless there was a fault
@@ -48,4 +40,4 @@ module _ (B : Bank) where
 
   -- the picks of a text that is read
   pub picks_ok : (picks ps : List ℕ) → read_lines 2 (read_pick B.width) 1 no_picks (lines_of picks) ≡ Ok ps → PicksOk B ps
-  picks_ok picks ps e = lines_keep 2 (read_pick B.width) (PicksOk B) (λ qs l rs h r. subst OkIf r (line_ok qs l h)) 1 no_picks (lines_of picks) ps (none_ok B) e
+  picks_ok picks ps e = lines_keep 2 (read_pick B.width) (PicksOk B) (λ qs l rs h r. subst OkIf r (line_ok qs l h)) 1 no_picks (lines_of picks) ps (no_picks_ok B) e

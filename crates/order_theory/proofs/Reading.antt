@@ -1,5 +1,5 @@
 -- An order that is read is read from both texts, within its budget.
-use Rattle.std.proofs.Common.{◌≡◌, ℕ, ◌^◌, ◌≤◌, Bool, true, false, cond, eqb, ltb, List, length, Ok, Err, Result, sym, refl, ap, ◌∙◌}
+use Rattle.std.proofs.Common.{◌≡◌, ℕ, ◌^◌, ◌≤◌, Bool, true, false, cond, eqb, ltb, List, length, Some, Ok, Err, Result, sym, refl, ap, ◌∙◌}
 use Rattle.std.proofs.lemmas.Bool.{ltb-false}
 use Rattle.lines.specs.Lines.{lines_of}
 use Rattle.texts.specs.Faults.{Fault, at_line, line_fault}
@@ -22,7 +22,7 @@ past true f r x e = cc
 past false f r x e = (refl, e)
 
 lines_read : (r : Result Catalogue Fault) (k : Catalogue) → if_read r ≡ Ok k → r ≡ Ok k
-lines_read (Ok c) k e = (past (eqb c.stage 0) (at_line 1 1 (line_fault 21)) (Ok c) k e).1
+lines_read (Ok c) k e = (past (eqb c.stage 0) (at_line 1 (Some 1) (line_fault 21)) (Ok c) k e).1
 lines_read (Err f) k e = cc
 
 picks_read : (k : Catalogue) (r : Result (List ℕ) Fault) (o : Order) → ordered k r ≡ Ok o → (o.catalogue ≡ k) × (r ≡ Ok o.picks)

@@ -1,6 +1,6 @@
 -- The whole order: both texts and the budget, read to a catalogue and the picks, or to the first fault.
-use Rattle.std.specs.Prelude.{ℕ, ◌^◌, cond, List, length, Ok, Err, Result, nat_lt}
-use Rattle.texts.specs.Faults.{Fault}
+use Rattle.std.specs.Prelude.{ℕ, ◌^◌, cond, List, length, None, Ok, Err, Result, nat_lt}
+use Rattle.texts.specs.Faults.{Fault, at_line, line_fault, session_fault}
 use Rattle.rule_text.specs.Catalogue.{Catalogue}
 use Rattle.rule_text.specs.RuleLines.{rules_text}
 use Rattle.pick_text.specs.PickLines.{picks_text}
@@ -20,7 +20,7 @@ with_picks (Err f) picks = Err f
 -- a budget above 2^62 is 5, a rule text over 49,152 bytes or a pick text over 4,096 bytes is 24, both at no line; then the rules, with room for 2,048 rows, then the picks
 unfoldable pub order_of : List ℕ → List ℕ → ℕ → Result Order Fault
 order_of rules picks budget =
-    cond (nat_lt (2 ^ 62) budget) (Err (record { text = 0; layer = 3; line = 0; number = 5 }))
-    (cond (nat_lt 49152 (length rules)) (Err (record { text = 1; layer = 1; line = 0; number = 24 }))
-    (cond (nat_lt 4096 (length picks)) (Err (record { text = 2; layer = 1; line = 0; number = 24 }))
+    cond (nat_lt (2 ^ 62) budget) (Err (at_line 0 None (session_fault 5)))
+    (cond (nat_lt 49152 (length rules)) (Err (at_line 1 None (line_fault 24)))
+    (cond (nat_lt 4096 (length picks)) (Err (at_line 2 None (line_fault 24)))
     (with_picks (rules_text 2048 rules) picks)))

@@ -1,26 +1,23 @@
 -- What a session's completion says of an order, in lines.
-use Rattle.std.proofs.Common.{◌≡◌, ℕ, ◌+◌, ◌-◌, ◌^◌, ◌<◌, ◌≤◌, Bool, true, leb, List, ◌++◌, map, length, take, drop, Some, None, Option, sym, refl, ap, ◌∙◌, subst, inl, inr, arith}
-use lib.ListN.{length-map}
+use Rattle.std.proofs.Common.{◌≡◌, ℕ, ◌+◌, ◌-◌, ◌^◌, ◌<◌, ◌≤◌, Bool, true, leb, List, length, take, Some, None, Option, refl, subst, inl, inr, arith}
 use Rattle.std.proofs.lemmas.Bool.{le-leb}
 use Rattle.std.proofs.lemmas.Bool.Decides.{nat_tests}
-use Rattle.std.proofs.lemmas.List.{take_at}
 use Rattle.std.specs.Option.{unwrap_or}
 use Rattle.builds.specs.Builds.{Build, first_build}
-use Rattle.builds.specs.Values.{num, bits}
-use Rattle.builds.proofs.Firsts.{first→}
+use Rattle.builds.specs.Values.{bits}
 use Rattle.bank.specs.Banks.{Bank}
 use Rattle.search_theory.specs.Orders.{fulfils, open_options}
 use Rattle.search_theory.specs.Trails.{start}
 use Rattle.search_theory.specs.Searches.{quest, End, built, nothing, out, Search}
 use Rattle.search_theory.specs.Calls.{spent, State, refusal, complete, said, Completes, Refuses, Does}
 use Rattle.search_theory.proofs.Law.{search_bound}
-use Rattle.search.specs.declared.verdict.Verdict.TheVariants.{Build as Found, NoBuild, Spent}
+use Rattle.search.specs.declared.verdict.Verdict.TheVariants.{NoBuild, Spent}
 use Rattle.search.specs.declared.verdict.Verdict.{Verdict}
 use Rattle.search.specs.Standing.{end_by}
 use Rattle.session.specs.declared.session.Session.{Session}
 use Rattle.session.specs.View.{state_of}
 use Rattle.session.specs.Completing.{Settles, VerdictRight}
-use Rattle.listing.specs.Listing.{value_lines, none_line, spent_line, build_fits, written, written_count, BuildLaw}
+use Rattle.listing.specs.Listing.{none_line, spent_line, written, written_count}
 use Rattle.quote.specs.Quoting.{found_lines, Tells, Written}
 
 -- what the session says, which was told this bank and these picks
@@ -43,24 +40,6 @@ module _ (B : Bank) (ps : List ℕ) (budget : ℕ) (old : List ℕ) (narrow : B.
 
   abbrev f : ℕ
   f = open_options B.width ps
-
-  -- a build: the place holds it, and its values give its lines
-  pub build_told : (before after : List ℕ) (n : ℕ) (new : List ℕ) → Settles B.width found Found before after → BuildLaw →
-      n ≡ unwrap_or (written_count (build_fits (take B.width after) old) (value_lines 0 (take B.width after))) 0 → new ≡ written (build_fits (take B.width after) old) (value_lines 0 (take B.width after)) old →
-      Written (Tells found f budget) old n new
-  build_told before after n new s law a b = go found refl s
-    where
-      here : (β : Build) → found ≡ Some β → after ≡ map num β ++ drop B.width before → Written (Tells found f budget) old n new
-      here β e z =
-          let long : length (map num β) ≡ B.width = length-map β num ∙ (first→ B.width (fulfils B ps) β e).passes.whole in
-          let front : take B.width after ≡ map num β = rw z (take_at (map num β) (drop B.width before) B.width long) in
-          let count = ap length front ∙ long in
-          let fits : build_fits (take B.width after) old ≡ true = grind (arith, nat_tests) in
-          put_lines (Tells found f budget) old _ _ n new fits (inl (ap (value_lines 0) front ∙ law β 0 ∙ ap found_lines (sym e))) a b
-
-      go : (x : Option Build) → found ≡ x → Settles B.width x Found before after → Written (Tells found f budget) old n new
-      go (Some β) e t = here β e t.1
-      go None e t = let y = t.0 in cc
 
   -- a line of one letter
   one_line : (line : List ℕ) (n : ℕ) (new : List ℕ) → Tells found f budget line → n ≡ unwrap_or (written_count (leb 2 (length old)) line) 0 → new ≡ written (leb 2 (length old)) line old → Written (Tells found f budget) old n new

@@ -1,6 +1,6 @@
 -- A new session is told its picks one by one.
 use mir.Val.{bool_byte}
-use Rattle.std.proofs.Common.{◌≡◌, ℕ, ◌+◌, ◌-◌, ◌<◌, Bool, not, ◌||◌, leb, List, ◌∷◌, ◌++◌, length, take, drop, get_or, set, sym, refl, ◌∙◌, append_assoc, append-nil, false, arith}
+use Rattle.std.proofs.Common.{◌≡◌, ℕ, ◌+◌, ◌-◌, ◌<◌, Bool, not, ◌||◌, leb, List, ◌∷◌, ◌++◌, length, take, drop, get_or, set, sym, refl, ◌∙◌, append_assoc, append-nil, false, Result, arith}
 use lib.ListN.{length-replicate}
 use Rattle.std.proofs.Math.Seq.{set-append_seam}
 use Rattle.std.proofs.lemmas.List.{take_more, drop_more, take_all, drop_all, length-take-le, get_or-append_right, get_or-replicate}
@@ -8,7 +8,10 @@ use Rattle.std.proofs.lemmas.Bool.Decides.{nat_tests}
 use Rattle.builds.specs.Values.{num}
 use Rattle.bank.specs.Banks.{Bank}
 use Rattle.search_theory.specs.Orders.{unpicked}
-use Rattle.search_theory.specs.Calls.{pick}
+use Rattle.search_theory.specs.Calls.{pick, State, refusal}
+use Rattle.bank.specs.declared.refusal.Refusal.{Refusal}
+use Rattle.bank.specs.Asked.{cause_of}
+use Rattle.std.specs.Result.{IsOk}
 use Rattle.search_theory.specs.Runs.{no_picks, next_picks}
 use Rattle.search_theory.specs.Held.{PicksOk}
 use Rattle.search_theory.proofs.Values.{byte_num, num_small}
@@ -37,14 +40,23 @@ module _ (i : ℕ) (ps : List ℕ) (long : length ps ≡ 128) (l : i < 128) wher
   open_there : get_or (told i ps) i 2 ≡ 2
   open_there = rw (before, get_or-append_right (take i ps) (2 ∷ drop (i + 1) no_picks) i i 2 front (omega arith)) (let z : i - i ≡ 0 = omega arith in rw z refl)
 
--- an option with a pick
-pub told_pick : (B : Bank) (i : ℕ) (v : Bool) (ps rs : List ℕ) → PicksOk B ps → i < 128 → get_or ps i 2 ≡ num v → rs ≡ next_picks B.width (told i ps) (pick i (bool_byte v)) → rs ≡ told (i + 1) ps
-told_pick B i v ps rs ok l e z =
-    let free = open_there i ps ok.long l in
-    let inside = ok.inside i in
-    let small = num_small v in
-    let taken : (leb B.width i || leb 2 (num v) || not (unpicked (told i ps) i)) ≡ false = grind (arith, nat_tests) in
-    z ∙ rw (byte_num v, taken, sym e) (set_there i ps ok.long l)
+-- an option with a pick: it is not refused, and told then
+module _ (B : Bank) (i : ℕ) (v : Bool) (ps : List ℕ) (ok : PicksOk B ps) (l : i < 128) (e : get_or ps i 2 ≡ num v) where
+  pub pick_allowed : {X : Type 0} (r : Result X Refusal) (s : State) → s.picks ≡ told i ps → cause_of r ≡ refusal B.width s (pick i (bool_byte v)) → IsOk r
+  pick_allowed r s z h =
+      let free = open_there i ps ok.long l in
+      let inside = ok.inside i in
+      let small = num_small v in
+      let byte = byte_num v in
+      grind (arith, nat_tests)
+
+  pub told_pick : (rs : List ℕ) → rs ≡ next_picks B.width (told i ps) (pick i (bool_byte v)) → rs ≡ told (i + 1) ps
+  told_pick rs z =
+      let free = open_there i ps ok.long l in
+      let inside = ok.inside i in
+      let small = num_small v in
+      let taken : (leb B.width i || leb 2 (num v) || not (unpicked (told i ps) i)) ≡ false = grind (arith, nat_tests) in
+      z ∙ rw (byte_num v, taken, sym e) (set_there i ps ok.long l)
 
 pub told_all : (ps : List ℕ) → length ps ≡ 128 → told 128 ps ≡ ps
 told_all ps l = rw (take_all 128 ps (omega arith), drop_all 128 no_picks (omega (arith, length-replicate {A = ℕ} 128 2))) (append-nil ps)

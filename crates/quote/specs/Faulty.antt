@@ -2,7 +2,7 @@
 use Rattle.std.specs.Prelude.{ℕ, zero, suc, ◌-◌, Bool, true, false, List, [], length, take, drop, Some, None, Ok, Err, Option, Result}
 use Rattle.lines.specs.declared.place.LinePlace.{LinePlace}
 use Rattle.texts.specs.Faults.{Fault}
-use Rattle.texts.specs.Causes.{TextFault, fault_of, text_number}
+use Rattle.texts.specs.Causes.{TextFault, fault_of, text_number, line_told as number_told}
 use Rattle.texts.specs.Places.{place_of}
 use Rattle.pick_text.specs.Orders.{Order}
 use Rattle.quote.specs.declared.faulty_line.FaultyLine.{FaultyLine}
@@ -37,12 +37,12 @@ line_told (Some l) = Some (record { text = text_number l.text; line = l.number; 
 -- the line that stands at a place of the text
 abbrev pub line_found : Fault → List ℕ → Option LinePlace → Option Faulty
 line_found f text None = None
-line_found f text (Some p) = Some (record { text = f.text; line = f.line; start = p.start; bytes = take (p.end - p.start) (drop p.start text) })
+line_found f text (Some p) = Some (record { text = f.text; line = number_told f.line; start = p.start; bytes = take (p.end - p.start) (drop p.start text) })
 
 -- the line with the fault's number, out of the fault's text; none without a fault, and where the text has no such line
 abbrev pub line_in : Result Order Fault → List ℕ → List ℕ → Option Faulty
 line_in (Ok o) rules picks = None
-line_in (Err f) rules picks = line_found f (text_named f.text rules picks) (place_of f.line (text_named f.text rules picks))
+line_in (Err f) rules picks = line_found f (text_named f.text rules picks) (place_of (number_told f.line) (text_named f.text rules picks))
 
 -- whether there is one, and what that leaves of a place handed in
 abbrev pub place_told : Option Faulty → Bool

@@ -21,13 +21,15 @@ fn tell<B: RuleBank>(session: &mut Session<B>, picks: &[Option<bool>; 128])
 {
     for (option, pick) in picks.iter().enumerate() {
         if let Some(value) = *pick {
-            // within the options and not picked yet: never refused
-            let _ = session.pick(option, value as u8);
+            // within the options and not picked yet
+            session.pick(option, value as u8).unwrap();
         }
     }
 }
 
 // Completes the picks and writes the lines of the build, or the one line that says why there is none. Says how many bytes that were.
+// A call of its own, so that what the search needs and what reading needs do not stand on the stack at once.
+#[inline(never)]
 pub(crate) fn answer<B: RuleBank + Drop>(
     b: B,
     picks: &[Option<bool>; 128],
@@ -43,13 +45,11 @@ pub(crate) fn answer<B: RuleBank + Drop>(
     let mut session = Session::new(b);
     tell(&mut session, picks);
     let mut place = [2u8; 128];
-    match session.complete(budget, &mut place) {
-        // neither the budget nor the place is refused
-        Err(_) => unreachable(),
-        Ok(completion) => match completion.answer {
-            Verdict::Build => write_build(listing, &place[0..width]),
-            Verdict::NoBuild => write_none(listing),
-            Verdict::Spent => write_spent(listing),
-        },
+    // neither the budget nor the place is refused
+    let completion = session.complete(budget, &mut place).unwrap();
+    match completion.answer {
+        Verdict::Build => write_build(listing, &place[0..width]),
+        Verdict::NoBuild => write_none(listing),
+        Verdict::Spent => write_spent(listing),
     }
 }

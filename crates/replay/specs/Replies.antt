@@ -1,9 +1,10 @@
 -- Calls and replies as the theory has them.
-use Rattle.std.specs.Prelude.{ℕ, Ok, Err, Result}
+use Rattle.std.specs.Prelude.{◌≡◌, ℕ, replicate, Ok, Err, Result, IfOk}
+use Rattle.builds.specs.Builds.{Build}
 use Rattle.bank.specs.declared.refusal.Refusal.{Refusal}
 use Rattle.bank.specs.Numbers.{number_of}
 use Rattle.search_theory.specs.Calls.{Call, pick, release, complete, continue, forced, forget, Reply, refused, done}
-use Rattle.session.specs.Completing.{completion_reply}
+use Rattle.session.specs.Completing.{filled, completion_reply}
 use Rattle.session.specs.Forcing.{force_reply}
 use Rattle.replay.specs.declared.call.Call.{Call as Asked}
 use Rattle.replay.specs.declared.call.Call.TheVariants.{Pick, Release, Complete, Resume, Forced, Forget}
@@ -28,3 +29,12 @@ given W (Told f) = force_reply f.answer f.steps
 abbrev pub reply_of : ℕ → Result Given Refusal → Reply
 reply_of W (Ok r) = given W r
 reply_of W (Err e) = refused (number_of e)
+
+-- the place of a completion holds zeros, where a build did not fill it
+abbrev pub Placed : ℕ → Given → Type 0
+Placed W Done = Unit {0}
+Placed W (Completed c place) = (β : Build) × (place ≡ filled W c.answer β (replicate 128 0))
+Placed W (Told f) = Unit {0}
+
+abbrev pub PlacedIn : ℕ → Result Given Refusal → Type 0
+PlacedIn W r = IfOk r (Placed W)

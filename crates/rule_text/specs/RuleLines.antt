@@ -1,6 +1,6 @@
 -- How a rule text is read, line by line, where there is room for so many rows. The order of the checks within a line: letter,
 -- length up to k (or all), those fields, too many, full length, the other fields, the table's own checks.
-use Rattle.std.specs.Prelude.{ℕ, zero, suc, ◌+◌, Bool, false, cond, ◌&&◌, ◌||◌, List, [], ◌∷◌, ◌++◌, length, Ok, Err, Result, ◌==◌, nat_le, nat_lt, slice_index, slice_index_or}
+use Rattle.std.specs.Prelude.{ℕ, zero, suc, ◌+◌, Bool, false, cond, ◌&&◌, ◌||◌, List, [], ◌∷◌, ◌++◌, length, Some, Ok, Err, Result, ◌==◌, nat_le, nat_lt, slice_index, slice_index_or}
 use Rattle.bank.specs.declared.table_fault.TableCause.TheVariants.{BlockOutside}
 use Rattle.bank.specs.Numbers.{Located}
 use Rattle.bank.specs.Checks.{at_item, refused_at, width_cause}
@@ -28,7 +28,7 @@ in_turn stage kind =
 -- what a table's check leaves: go on where it passes, or its fault
 abbrev pub if_passed : Result (Unit {0}) Located → Result Catalogue Layered → Result Catalogue Layered
 if_passed (Ok x) go = go
-if_passed (Err f) go = Err (table_fault f.number)
+if_passed (Err f) go = Err (table_fault f)
 
 -- the catalogue that a line makes, if the table's check passes
 abbrev pub checked : Result (Unit {0}) Located → Catalogue → Result Catalogue Layered
@@ -104,7 +104,7 @@ read_rule room c l =
 
 -- after the last line; a text without lines has no letter at line 1
 abbrev pub finished : Catalogue → Result Catalogue Fault
-finished c = cond (c.stage == 0) (Err (at_line 1 1 (line_fault 21))) (Ok c)
+finished c = cond (c.stage == 0) (Err (at_line 1 (Some 1) (line_fault 21))) (Ok c)
 
 abbrev pub if_read : Result Catalogue Fault → Result Catalogue Fault
 if_read (Ok c) = finished c

@@ -115,6 +115,7 @@ impl<'a> Tables<'a> {
     }
 
     // A line of a kind that may stand here. A match: each kind fills another table, and closures of one type would have to take them all.
+    // `?` and `Ok(())`, here and in `read_rule`: a result that is handed on whole is copied for each line.
     fn read_kind(&mut self, kind: Kind, line: Line<'_>) -> Result<(), Cause>
         requires turn { in_turn (stage_of self.old.last) (rank_of kind) ≡ true }
         ensures answer { line_said result (catalogue_of self.new) ≡ read_kind (room_of self.old.diagrams.rows.now) (rank_of kind) (catalogue_of self.old) (line_of line.entry) }
@@ -122,13 +123,14 @@ impl<'a> Tables<'a> {
         ensures grown { Grown self.old.diagrams self.new.diagrams }
     {
         match kind {
-            Kind::Width => self.read_width(line),
-            Kind::Block => self.read_block(line),
-            Kind::Row => self.read_row(line),
-            Kind::Root => self.read_root(line),
-            Kind::Clause => self.read_clause(line),
-            Kind::Group => self.read_group(line),
+            Kind::Width => self.read_width(line)?,
+            Kind::Block => self.read_block(line)?,
+            Kind::Row => self.read_row(line)?,
+            Kind::Root => self.read_root(line)?,
+            Kind::Clause => self.read_clause(line)?,
+            Kind::Group => self.read_group(line)?,
         }
+        Ok(())
     }
 
     // One line, after those that were read before.
@@ -142,6 +144,7 @@ impl<'a> Tables<'a> {
         if !in_turn(self.last, kind) {
             return Err(Cause::Line(LineFault::Letter));
         }
-        self.read_kind(kind, line)
+        self.read_kind(kind, line)?;
+        Ok(())
     }
 }

@@ -1,5 +1,10 @@
 pub mod Stands
 pub mod Asking
 pub mod Looks
+pub mod Hushing
+pub mod Thinner
+pub mod Gathering
+pub mod Reasons
+pub mod Denials
 pub mod Stepping
 pub mod Searching

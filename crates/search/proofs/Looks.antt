@@ -1,6 +1,7 @@
 -- What a look at all rules finds: the answers of single rules, joined to what the theory says of the trail.
 use Rattle.std.proofs.Common.{◌≡◌, ℕ, zero, suc, ◌<◌, ◌≤◌, Bool, true, false, List, [], ◌∷◌, length, get_or, take, Some, Option, sym, refl, ap, ◌∙◌, inl, inr, arith}
-use Rattle.std.proofs.lemmas.Bool.{cases_lt, lt-ltb, le-ltb, or_left, or_right}
+use Rattle.std.proofs.lemmas.Bool.{cases_lt, lt-ltb, le-ltb}
+use Rattle.std.proofs.lemmas.List.{length-take-le}
 use Rattle.std.proofs.lemmas.List.FromFn.{take-map-range_with_len}
 use Rattle.builds.specs.Values.{up_to}
 use Rattle.builds.specs.Answers.{Said, answer_of}
@@ -8,14 +9,18 @@ use Rattle.bank.specs.Banks.{Bank, Duties}
 use Rattle.bank.specs.Marking.{Ready}
 use Rattle.clauses.specs.Clause.{clause_meets}
 use Rattle.clauses.specs.Literals.{within}
+use Rattle.clauses.specs.declared.set_clause.SetClause.{SetClause}
+use Rattle.clauses.specs.declared.value_sets.ValueSets.{ValueSets}
+use Rattle.clauses.specs.TwoSets.{spelled, InStep, Tested}
 use Rattle.search_theory.specs.Trails.{Entry, unset, picked, decided, implied, Trail, Store, Source, bank_rule, learnt_rule}
 use Rattle.search_theory.specs.Searches.{any_below, any_of, is_dead, clause_dead, dead_at, marks_at, shown, values_from}
-use Rattle.search_theory.proofs.Banks.{any_intro, length_values, at_values, up_to_values}
-use Rattle.search_theory.proofs.Jumping.{of_intro}
+use Rattle.search_theory.specs.Jumps.{dead_rule}
+use Rattle.search_theory.proofs.Banks.{length_values, at_values, up_to_values}
 use Rattle.search_theory.proofs.Values.{num_small}
 use Rattle.search.specs.declared.propagate.Finding.{Finding}
 use Rattle.search.specs.declared.propagate.Finding.TheVariants.{Dead, Marks}
-use Rattle.search.specs.Finding.{Silent, Told, Hears, Noted, Quietly, Asks, AllInside}
+use Rattle.search_theory.specs.Silence.{Silent, Table}
+use Rattle.search.specs.Finding.{Told, Hears, Noted, Quietly, Asks, AllInside}
 use Rattle.trail.proofs.Tables.{values_made}
 
 shown_open : (e : Entry) → shown e ≡ 2 → e ≡ unset
@@ -41,12 +46,16 @@ module _ (B : Bank) (L : Duties B) (t : Trail) (values : List ℕ) (made : value
   whole : 128 ≤ length values
   whole = omega (arith, ap length made, length_values 128 0 t)
 
-  same : vs ≡ values_from B.width 0 t
+  pub same : vs ≡ values_from B.width 0 t
   same =
       ap (take B.width) (made ∙ values_made 128 t) ∙ take-map-range_with_len (λ i. shown (t i)) 0 128 B.width L.narrow ∙ sym (values_made B.width t)
 
   small : up_to 2 vs ≡ true
   small = ap (up_to 2) same ∙ up_to_values B.width 0 t
+
+  -- the table is whole, and its front is a table that the bank may be asked about
+  pub table : (length values ≡ 128) × Table B.width vs
+  table = (ap length made ∙ length_values 128 0 t, record { long = length-take-le B.width values (omega (arith, whole, L.narrow)); small = small })
 
   -- each rule of the bank may be asked
   pub ready : (r : ℕ) → r < B.rules → Ready B.width B.rules r values 128
@@ -56,9 +65,10 @@ module _ (B : Bank) (L : Duties B) (t : Trail) (values : List ℕ) (made : value
   learnt_says k = answer_of B.width (clause_meets (get_or st k [])) vs
 
   -- a learnt clause is heard at its own literals, and these are the store's
-  pub learnt_told : (k : ℕ) (c : List ℕ) (r : Option Finding) → k < length st → AllInside B.width st → c ≡ get_or st k [] →
-      ((w : ℕ) → w ≤ 128 → within w c ≡ true → up_to 2 (take w values) ≡ true → Hears w (take w values) (answer_of w (clause_meets c) (take w values)) r) → Hears B.width vs (learnt_says k) r
-  learnt_told k c r l inside e told = rw (← e) (told B.width L.narrow (ap (within B.width) e ∙ inside k l) small)
+  pub learnt_told : (k : ℕ) (c : SetClause) (s : ValueSets) (r : Option Finding) → k < length st → AllInside B.width st → spelled c ≡ get_or st k [] → InStep s (values_from 128 0 t) →
+      ((v : List ℕ) (w : ℕ) → Tested c s v w → Hears w (take w v) (answer_of w (clause_meets (spelled c)) (take w v)) r) → Hears B.width vs (learnt_says k) r
+  learnt_told k c s r l inside e step told =
+      rw (← e) (told values B.width (record { step = rw made step; inside = ap (within B.width) e ∙ inside k l; wide = omega (arith, whole, L.narrow); small = small }))
 
   free : (o : ℕ) → o < B.width → get_or vs o 2 ≡ 2 → t o ≡ unset
   free o l e = shown_open (t o) (sym (at_values B.width t o l) ∙ ap (λ x. get_or x o 2) (sym same) ∙ e)
@@ -66,11 +76,11 @@ module _ (B : Bank) (L : Duties B) (t : Trail) (values : List ℕ) (made : value
   still_free : (o : ℕ) → o < B.width → t o ≡ unset → get_or vs o 2 ≡ 2
   still_free o l e = ap (λ x. get_or x o 2) same ∙ at_values B.width t o l ∙ ap shown e
 
-  dead_bank : (r : ℕ) → r < B.rules → is_dead (B.says r vs) ≡ true → dead_at B st (values_from B.width 0 t) ≡ true
-  dead_bank r l e = rw (← same) (or_left _ _ (any_intro B.rules _ r l e))
+  dead_bank : (r : ℕ) → r < B.rules → is_dead (B.says r vs) ≡ true → dead_rule B st (values_from B.width 0 t) (bank_rule r) ≡ true
+  dead_bank r l e = rw (← same, lt-ltb r B.rules l) e
 
-  dead_learnt : (k : ℕ) → k < length st → is_dead (learnt_says k) ≡ true → dead_at B st (values_from B.width 0 t) ≡ true
-  dead_learnt k l e = rw (← same) (or_right _ _ (of_intro _ st k l e))
+  dead_learnt : (k : ℕ) → k < length st → is_dead (learnt_says k) ≡ true → dead_rule B st (values_from B.width 0 t) (learnt_rule k) ≡ true
+  dead_learnt k l e = rw (← same, lt-ltb k (length st) l) e
 
   marks_bank : (r o : ℕ) (x : Bool) → r < B.rules → Told B.width vs (B.says r vs) o x → Noted B st t o x (bank_rule r)
   marks_bank r o x l k = record {

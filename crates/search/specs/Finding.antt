@@ -1,11 +1,15 @@
 -- What the rules say of a trail, and the step that is needed then.
-use Rattle.std.specs.Prelude.{◌≡◌, ℕ, ◌<◌, ◌≤◌, Bool, true, false, List, [], length, get_or, Some, None, Option, slice_index, slice_index_or}
+use Rattle.std.specs.Prelude.{◌≡◌, ℕ, ◌<◌, ◌≤◌, Bool, true, false, List, [], length, take, get_or, Some, None, Option, slice_index, slice_index_or}
 use Rattle.builds.specs.Values.{num}
 use Rattle.builds.specs.Answers.{Said}
 use Rattle.bank.specs.Banks.{Bank}
 use Rattle.clauses.specs.Literals.{within}
 use Rattle.search_theory.specs.Trails.{unset, Source, Store, Trail, Full}
 use Rattle.search_theory.specs.Searches.{is_dead, mark_is, dead_at, marks_at, values_from}
+use Rattle.search_theory.specs.Jumps.{dead_rule}
+use Rattle.search_theory.specs.Silence.{Silent, Table}
+use Rattle.rule_set.specs.Rules.{rule_in}
+use Rattle.quiet.specs.declared.quiet.Quiet.{Quiet as Asked}
 use Rattle.search.specs.declared.propagate.Mark.{Mark}
 use Rattle.search.specs.declared.propagate.Finding.{Finding}
 use Rattle.search.specs.declared.propagate.Finding.TheVariants.{Dead, Marks}
@@ -14,11 +18,6 @@ use Rattle.search.specs.declared.step.Next.TheVariants.{Conflict, Implication, D
 use Rattle.trail.specs.declared.entry.Source.{Source as RuleFrom}
 use Rattle.trail.specs.View.{source_of}
 use Rattle.trail.specs.Rows.{Lowest}
-
--- a rule's answer is live and marks no open option
-pub record Silent (W : ℕ) (vs : List ℕ) (s : Said) : Type 0 where
-  pub live : is_dead s ≡ false
-  pub still : (o : ℕ) (v : Bool) → o < W → slice_index_or vs o 2 ≡ 2 → mark_is s o v ≡ false
 
 -- it marks the open option o with x
 pub record Told (W : ℕ) (vs : List ℕ) (s : Said) (o : ℕ) (x : Bool) : Type 0 where
@@ -54,10 +53,14 @@ pub record Quietly (B : Bank) (st : Store) (t : Trail) : Type 0 where
   pub live : dead_at B st (values_from B.width 0 t) ≡ false
   pub still : (s : Source) (o : ℕ) (v : Bool) → o < B.width → t o ≡ unset → marks_at B st (values_from B.width 0 t) s o v ≡ false
 
--- a rule asks for this under the trail
+-- just this rule asks for this under the trail
 abbrev pub Asks : Bank → Store → Trail → Finding → Source → Type 0
-Asks B st t Dead s = dead_at B st (values_from B.width 0 t) ≡ true
+Asks B st t Dead s = dead_rule B st (values_from B.width 0 t) s ≡ true
 Asks B st t (Marks m) s = Noted B st t m.option m.value s
+
+-- each rule that need not be asked is silent at the values that were last asked about
+abbrev pub Hushed : Bank → Asked → Type 0
+Hushed B q = (r : ℕ) → r < B.rules → rule_in q.rules.words r ≡ true → Table B.width (take B.width q.values) × Silent B.width (take B.width q.values) (B.says r (take B.width q.values))
 
 -- what was found is what the rules say under the trail
 abbrev pub Finds : Bank → Store → Trail → Option (Finding × RuleFrom) → Type 0
@@ -77,7 +80,7 @@ pub record Done (B : Bank) (st : Store) (t : Trail) : Type 0 where
 -- the step that is needed, or none
 abbrev pub Needs : Bank → Store → Trail → Option Next → Type 0
 Needs B st t None = Done B st t
-Needs B st t (Some Conflict) = dead_at B st (values_from B.width 0 t) ≡ true
+Needs B st t (Some (Conflict s)) = dead_rule B st (values_from B.width 0 t) (source_of s) ≡ true
 Needs B st t (Some (Implication m s)) = Noted B st t m.option m.value (source_of s)
 Needs B st t (Some (Decision o)) = FreeAt B st t o
 

@@ -2,7 +2,10 @@
 #![tactic(auto)]
 
 mod analyze;
+mod backjump;
 mod propagate;
+mod reason;
 pub mod search;
 mod step;
+mod thin;
 pub mod verdict;

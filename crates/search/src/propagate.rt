@@ -1,20 +1,23 @@
 // Propagation: asks the rules about the trail's values.
-// The bank's rules are asked first, then the learnt ones, the newest first; the first that is dead or marks an open option counts.
-ghost use Rattle.std.specs.Prelude.{◌≡◌, ℕ, ◌≤◌, true, length, take};
-ghost use Rattle.builds.specs.Values.{up_to};
+// The bank's rules are asked first, from the last to the first, then the learnt ones, the newest first; the first that is dead or
+// marks an open option counts. In a pair the dearer rules stand first, so that they are asked only where the others have nothing to say.
+ghost use Rattle.std.specs.Prelude.{◌≡◌, ℕ, List, length, take};
 ghost use Rattle.builds.specs.Answers.{answer_of};
 ghost use Rattle.bank.specs.Marking.{Ready};
 ghost use Rattle.clauses.specs.Clause.{clause_meets};
-ghost use Rattle.clauses.specs.Literals.{numbers, within};
+ghost use Rattle.clauses.specs.TwoSets.{spelled, Tested};
 ghost use Rattle.trail.specs.View.{trail_of, store_of};
-ghost use Rattle.search.specs.Finding.{Marked, Hears, Finds, AllInside};
+ghost use Rattle.quiet.specs.Readers.{Reading};
+ghost use Rattle.search.specs.Finding.{Marked, Hears, Finds, AllInside, Hushed};
 
 use crate::search::Search;
 use bank::refusal::Answer;
 use bank::rule_bank::RuleBank;
 use clauses::left::Left;
-use clauses::literal::Literal;
-use clauses::scan::scan;
+use clauses::set_clause::SetClause;
+use clauses::value_sets::ValueSets;
+use quiet::quiet::Quiet;
+use quiet::readers::Readers;
 use trail::entry::Source;
 
 // An open option with the value that a rule marks it with.
@@ -66,11 +69,10 @@ fn ask<B: RuleBank>(b: &B, rule: usize, values: &[u8]) -> Option<Finding>
 }
 
 // What a learnt clause asks for.
-fn ask_learnt(literals: &[Literal], values: &[u8]) -> Option<Finding>
-    requires { 128 ≤ length values.now }
-    ensures { (w : ℕ) → w ≤ 128 → within w (numbers literals.now) ≡ true → up_to 2 (take w values.now) ≡ true → Hears w (take w values.now) (answer_of w (clause_meets (numbers literals.now)) (take w values.now)) result }
+fn ask_learnt(clause: SetClause, value_sets: ValueSets) -> Option<Finding>
+    ensures { (v : List ℕ) (w : ℕ) → Tested clause value_sets v w → Hears w (take w v) (answer_of w (clause_meets (spelled clause)) (take w v)) result }
 {
-    match scan(literals, values) {
+    match clause.left(value_sets) {
         Left::Nothing => Some(Finding::Dead),
         Left::One(literal) => Some(Finding::Marks(Mark {
             option: literal.option(),
@@ -81,19 +83,31 @@ fn ask_learnt(literals: &[Literal], values: &[u8]) -> Option<Finding>
 }
 
 impl Search {
-    // The first rule that is dead or marks an open option, and what it asks for.
-    pub(crate) fn propagate<B: RuleBank>(&self, b: &B) -> Option<(Finding, Source)>
-        ensures { AllInside (B.meaning b.now).width (store_of self.now.learnt) → Finds (B.meaning b.now) (store_of self.now.learnt) (trail_of self.now.trail.entries) result }
+    // A rule that is dead or marks an open option, and what it asks for. Rules that are known to say nothing new are not asked.
+    pub(crate) fn propagate<B: RuleBank>(
+        &self,
+        b: &B,
+        readers: &Readers,
+        quiet: &mut Quiet,
+    ) -> Option<(Finding, Source)>
+        ensures finds { Reading (B.meaning b.now) (B.reading b.now) readers.now.rules → Hushed (B.meaning b.now) quiet.old → AllInside (B.meaning b.now).width (store_of self.now.learnt)
+            → Finds (B.meaning b.now) (store_of self.now.learnt) (trail_of self.now.trail.entries) result }
+        ensures hushed { Reading (B.meaning b.now) (B.reading b.now) readers.now.rules → Hushed (B.meaning b.now) quiet.old → Hushed (B.meaning b.now) quiet.new }
     {
         let values = self.trail.values();
+        quiet.wake(readers, &values);
         // loops with an early return: `find_map` over the numbers was tried and the proof did not close (c), since std tells no first answer of it, as it does of `find`
-        for rule in 0..b.count() {
-            if let Some(finding) = ask(b, rule, &values) {
-                return Some((finding, Source::Bank(rule)));
+        for rule in (0..b.count()).rev() {
+            if !quiet.holds(rule) {
+                if let Some(finding) = ask(b, rule, &values) {
+                    return Some((finding, Source::Bank(rule)));
+                }
+                quiet.hush(rule);
             }
         }
+        let value_sets = self.trail.value_sets();
         for age in 0..self.learnt.len() {
-            if let Some(finding) = ask_learnt(self.learnt.clause(age), &values) {
+            if let Some(finding) = ask_learnt(self.learnt.clause(age), value_sets) {
                 return Some((finding, Source::Learnt(age)));
             }
         }

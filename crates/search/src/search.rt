@@ -7,9 +7,11 @@ ghost use Rattle.search_theory.specs.Held.{StoreSound};
 ghost use Rattle.trail.specs.View.{trail_of, store_of};
 ghost use Rattle.search.specs.Standing.{point_of, Standing, end_by};
 
-use crate::step::NoDecision;
+use crate::backjump::NoDecision;
 use crate::verdict::{Counted, Verdict};
 use bank::rule_bank::RuleBank;
+use quiet::quiet::Quiet;
+use quiet::readers::Readers;
 use trail::learnt::Learnt;
 use trail::trail::Trail;
 
@@ -28,9 +30,10 @@ impl Search {
         ensures stands { (ps : List ℕ) → Standing (B.meaning b.now) ps self.old → Standing (B.meaning b.now) ps self.new }
         ensures learns { (ps : List ℕ) → Standing (B.meaning b.now) ps self.old → StoreSound (B.meaning b.now) (store_of self.new.learnt) }
     {
-        let width = b.width();
+        let readers = Readers::of(b);
+        let mut quiet = Quiet::none();
         let mut steps: u64 = 0;
-        while let Some(next) = self.next_step(b) {
+        while let Some(next) = self.next_step(b, &readers, &mut quiet) {
             if steps == budget {
                 return Counted {
                     answer: Verdict::Spent,
@@ -38,7 +41,7 @@ impl Search {
                 };
             }
             steps += 1;
-            if let Err(NoDecision) = self.take_step(next, width) {
+            if let Err(NoDecision) = self.take_step(b, next) {
                 return Counted {
                     answer: Verdict::NoBuild,
                     steps,

@@ -1,6 +1,6 @@
 -- What a bank with its duties says of the builds that are still wanted.
 use Rattle.std.proofs.Common.{◌≡◌, ℕ, zero, suc, ◌+◌, ◌<◌, ◌≤◌, Bool, true, false, leb, ◌≢◌, List, [], ◌∷◌, map, length, get_or, take, refl, ap, ◌∙◌, inl, inr, add-zero, zero-add, arith}
-use Rattle.std.proofs.lemmas.Bool.{and_parts, and_from, or_left, or_right, or_cases, or_parts, cases_eq, cases_lt, ltb-true, eqb-true, true_from_ne_false, false_from_ne_true}
+use Rattle.std.proofs.lemmas.Bool.{and_parts, and_from, or_left, or_right, or_cases, or_parts, cases_eq, ltb-true, eqb-true, true_from_ne_false, false_from_ne_true}
 use Rattle.std.proofs.lemmas.List.{get_or_default}
 use Rattle.builds.specs.Builds.{Build, bit, Passes, HasNoBuild}
 use Rattle.builds.specs.Values.{num, up_to, bits, allows, fits}
@@ -188,16 +188,6 @@ read_wanted B L ps a S full e =
     let m : i < B.width = rw length_read at l in
     allows_pick (get_or ps i 2) (bit b i) (λ v q. read_bit B.width a.trail i m ∙ ap value (S.stand i v m q)))))
 
--- one decision to a level
-one_decision : (Q : Quest) (a : Point) → Sound Q a → (i h j : ℕ) → i < Q.width → h < Q.width → a.trail i ≡ decided j → a.trail h ≡ decided j → i ≡ h
-one_decision Q a S i h j l m e f = elim (cases_lt i h) [
-  | inl k ↦ absurd (clash i h k m e f)
-  | inr k ↦ elim (cases_eq i h) [ inl q ↦ q | inr q ↦ absurd (clash h i (omega arith) l f e) ]
-]
-  where
-    clash : (x y : ℕ) → x < y → y < Q.width → a.trail x ≡ decided j → a.trail y ≡ decided j → ⊥
-    clash x y k n p q = omega (arith, (S.below y j n q x k).1, ap level p)
-
 module _ (B : Bank) (L : Duties B) (ps : List ℕ) (a : Point) (T : StoreSound B a.store) (S : Sound (quest B ps) a) where
   abbrev vs : List ℕ
   vs = values_from B.width 0 a.trail
@@ -217,10 +207,3 @@ module _ (B : Bank) (L : Duties B) (ps : List ℕ) (a : Point) (T : StoreSound B
   -- with no decision standing: no wanted build at all
   pub dead_hopeless : (quest B ps).dead a.store a.trail ≡ true → a.depth ≡ 0 → HasNoBuild B.width (fulfils B ps)
   dead_hopeless e z = no_build B ps (λ β w. dead_none e β w (λ i j x y n. absurd (omega (arith, S.real i j x y))))
-
-  -- a dead rule, and the last decision: its option has 1 in every wanted build that keeps the others
-  pub last_forced : (quest B ps).dead a.store a.trail ≡ true → (k o : ℕ) → a.depth ≡ suc k → o < B.width → a.trail o ≡ decided (suc k) → (β : Build) → Fulfils B ps β → Keeps (quest B ps) a.trail k β → bit β o ≡ true
-  last_forced e k o d l q β w K = true_from_ne_false (bit β o) (λ p. dead_none e β w (λ i j m r n. elim (cases_lt k j) [
-    | inr h ↦ K i j m r h
-    | inl h ↦ (let z : j ≡ suc k = omega arith in let s : i ≡ o = one_decision (quest B ps) a S i o (suc k) m l (rw z at r) q in rw s p)
-  ]))

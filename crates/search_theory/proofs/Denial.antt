@@ -1,21 +1,16 @@
--- The clause against all picks and decisions, where a rule is dead.
+-- The clause against a set of picks and decisions.
 use Rattle.std.proofs.Common.{◌≡◌, ℕ, zero, suc, ◌+◌, ◌*◌, ◌/◌, ◌%◌, ◌<◌, ◌≤◌, Bool, true, false, cond, not, ◌&&◌, ◌||◌, List, [], ◌∷◌, ◌++◌, length, get_or, sym, refl, ap, inl, inr, arith}
 use mathlib.Core.Bool.{beq}
-use Rattle.std.proofs.lemmas.Bool.{cases_eq, cond_both, eq-eqb, ne_eqb, and_from, or_parts, true_from_ne_false}
+use Rattle.std.proofs.lemmas.Bool.{cases_eq, cond_both, eq-eqb, ne_eqb, or_parts}
 use Rattle.std.proofs.Math.Bool.{and_assoc}
 use Rattle.std.specs.List.{All}
 use Rattle.std.proofs.lemmas.List.{length-append}
 use Rattle.std.proofs.lemmas.List.Elements.{All-nil, All-cons, All-append, All-weaker}
-use Rattle.builds.specs.Builds.{Build, bit, same, Passes}
-use Rattle.builds.specs.Values.{num, fits}
-use Rattle.bank.specs.Banks.{Bank, Duties, meets_all}
+use Rattle.builds.specs.Builds.{Build, bit, same}
+use Rattle.builds.specs.Values.{num}
 use Rattle.clauses.specs.Clause.{wants, literal_meets, clause_meets}
-use Rattle.search_theory.specs.Trails.{Entry, unset, picked, decided, implied, is_unset, value, Trail, refuted, Point}
-use Rattle.search_theory.specs.Searches.{quest}
-use Rattle.search_theory.specs.Denials.{Set, everything, denies, denial_of, denial}
-use Rattle.search_theory.proofs.Picks.{fits_intro, allows_pick}
-use Rattle.search_theory.proofs.Banks.{dead_none}
-use Rattle.search_theory.proofs.Dense.{Held}
+use Rattle.search_theory.specs.Trails.{Entry, unset, picked, decided, implied, is_unset, value, Trail, refuted}
+use Rattle.search_theory.specs.Denials.{Set, denies, denial_of}
 
 -- the two parts of a literal
 half : (i : ℕ) (v : Bool) → (2 * i + num v) / 2 ≡ i
@@ -61,13 +56,6 @@ denied_of D (suc n) t β e h l q =
       | inr f ↦ denied_of D n t β parts.0 h (omega arith) q
       | inl f ↦ (let d : D n ≡ true = rw f at q in rw f (denied_one n (t n) β (rw d at parts.1)))
     ]
-
--- every build meeting the bank meets the clause
-pub denial_met : (B : Bank) → Duties B → (ps : List ℕ) (a : Point) → Held B ps a → (quest B ps).dead a.store a.trail ≡ true → (β : Build) → Passes B.width (meets_all B) β → clause_meets (denial B.width a.trail) β ≡ true
-denial_met B L ps a H e β p = true_from_ne_false (clause_meets (denial B.width a.trail) β) (λ q. (
-    let has : (i : ℕ) → i < B.width → Denied (a.trail i) (bit β i) = λ i l. denied_of everything B.width a.trail β q i l refl in
-    let kept : fits ps β ≡ true = fits_intro ps β (λ i l. (let m : i < B.width = rw p.whole at l in allows_pick (get_or ps i 2) (bit β i) (λ v q. rw (H.sound.stand i v m q) at (has i m)))) in
-    dead_none B L ps a H.store H.sound e β (record { whole = p.whole; met = and_from (meets_all B β) (fits ps β) p.met kept }) (λ i j l d n. rw d at (has i l))))
 
 denies_short : (i : ℕ) (x : Entry) → length (denies i x) ≤ 1
 denies_short i x = grind arith

@@ -67,9 +67,6 @@ pub reached_start : (B : Bank) (ps : List ℕ) (st : Store) → StoreSound B st 
 unfolding Steps
 reached_start B ps st S = record { old = st; old_sound = S; count = 0; way = refl }
 
--- at a point that was reached there are no more levels than options, and the last decision has an option
+-- at a point that was reached there are no more levels than options
 pub reached_depth : (B : Bank) (ps : List ℕ) (a : Point) → Reached B ps a → a.depth ≤ B.width
 reached_depth B ps a R = let H = reached_held B ps a R in depth_small (quest B ps) a H.sound H.dense
-
-pub reached_last : (B : Bank) (ps : List ℕ) (a : Point) → Reached B ps a → 0 < a.depth → (i : ℕ) × (i < B.width) × (a.trail i ≡ decided a.depth)
-reached_last B ps a R p = (reached_held B ps a R).dense a.depth p (omega arith)

@@ -1,30 +1,26 @@
 -- Conflicts as the search analyses them: the clash of a dead rule, the decision that flips, and the level that is kept.
 use Rattle.std.proofs.Common.{◌≡◌, ℕ, zero, suc, ◌<◌, ◌≤◌, Bool, true, false, cond, not, ◌&&◌, eqb, ◌≢◌, List, [], ◌∷◌, length, get_or, take, sym, refl, ap, ◌∙◌, inl, inr, arith}
-use Rattle.std.proofs.lemmas.Bool.{cases_eq, cases_lt, cases_Bool, eq-eqb, ne_eqb, ltb-true, and_parts, and_from, or_left, or_right, true_from_ne_false}
+use Rattle.std.proofs.lemmas.Bool.{cases_eq, cases_lt, cases_Bool, eq-eqb, ne_eqb, ltb-true, and_parts, or_left, or_right, true_from_ne_false}
 use Rattle.builds.specs.Builds.{Build, bit, Passes, HasNoBuild}
-use Rattle.bank.specs.Banks.{Bank, Duties, meets_all}
-use Rattle.bank.specs.Reading.{Local}
-use Rattle.bank.proofs.Agree.{bank_agrees}
+use Rattle.bank.specs.Banks.{Bank, meets_all}
 use Rattle.search_theory.specs.Orders.{fulfils}
 use Rattle.search_theory.specs.Trails.{Entry, unset, decided, implied, Source, bank_rule, learnt_rule, value, level, cut, Trail, Store, Point, Conflict}
-use Rattle.search_theory.specs.Searches.{quest, any_below, any_of, is_dead, clause_dead, dead_at, marks_at, values_from, shown}
+use Rattle.search_theory.specs.Searches.{quest, any_below, any_of, is_dead, clause_dead, dead_at}
 use Rattle.search_theory.specs.Denials.{Set, denial_of}
-use Rattle.search_theory.specs.Backed.{Root, Has, Roots, Backed, Clash, alone, LocalTo, HasValues, Gathers}
-use Rattle.search_theory.specs.Jumps.{dead_rule, reads_of, behind, is_decision, LastIn, NoDecision, top_level}
+use Rattle.search_theory.specs.Backed.{Root, Has, Roots, Backed, Clash, alone}
+use Rattle.search_theory.specs.Jumps.{dead_rule, is_decision, LastIn, NoDecision, top_level}
 use Rattle.search_theory.proofs.Sound.{Sound, cut_keeps}
-use Rattle.search_theory.proofs.Banks.{any_true, any_intro, at_values, value_kept, fulfils_passes, store_clause, Known, rule_of, said_of, marks_parts, rule_met, rule_honest}
+use Rattle.search_theory.proofs.Banks.{any_intro, value_kept, fulfils_passes, Known, said_of}
 use Rattle.search_theory.proofs.Picks.{no_build}
 use Rattle.search_theory.proofs.Denial.{denial_short, denial_inside, denial_refuted}
-use Rattle.search_theory.proofs.Dense.{Held}
-use Rattle.search_theory.proofs.Reading.{read_dead, read_marks, clause_local}
-use Rattle.search_theory.proofs.Backs.{clash_met, values_part, gathered, backed_change, backed_more, alone_roots, alone_holds}
+use Rattle.search_theory.proofs.Backs.{clash_met, backed_change, backed_more, alone_roots, alone_holds}
 
 pub of_intro : (q : List ℕ → Bool) (st : Store) (k : ℕ) → k < length st → q (get_or st k []) ≡ true → any_of q st ≡ true
 of_intro q [] k l e = absurd (omega arith)
 of_intro q (c ∷ st) zero l e = or_left (q c) (any_of q st) e
 of_intro q (c ∷ st) (suc k) l e = or_right (q c) (any_of q st) (of_intro q st k (omega arith) e)
 
-dead_parts : (B : Bank) (st : Store) (vs : List ℕ) (s : Source) → dead_rule B st vs s ≡ true → Known B st s × (is_dead (said_of B st vs s) ≡ true)
+pub dead_parts : (B : Bank) (st : Store) (vs : List ℕ) (s : Source) → dead_rule B st vs s ≡ true → Known B st s × (is_dead (said_of B st vs s) ≡ true)
 dead_parts B st vs (bank_rule r) e = let q = and_parts _ _ e in (ltb-true r B.rules q.0, q.1)
 dead_parts B st vs (learnt_rule k) e = let q = and_parts _ _ e in (ltb-true k (length st) q.0, q.1)
 
@@ -36,46 +32,6 @@ dead_any B st vs (bank_rule r) e =
 dead_any B st vs (learnt_rule k) e =
     let q = dead_parts B st vs (learnt_rule k) e in
     or_right (any_below B.rules (λ r. is_dead (B.says r vs))) (any_of (clause_dead B.width vs) st) (of_intro (clause_dead B.width vs) st k q.0 q.1)
-
-module _ (B : Bank) (L : Duties B) (reading : ℕ → ℕ → Bool) (local : Local B reading) (ps : List ℕ) (a : Point) (H : Held B ps a) (on : ℕ → Set) (K : Backed B a.trail on) (bare : (i h : ℕ) → a.trail i ≡ unset → on i h ≡ false) where
-  abbrev vs : List ℕ
-  vs = values_from B.width 0 a.trail
-
-  rule_local : (s : Source) → Known B a.store s → LocalTo B.width (rule_of B a.store s) (reads_of reading a.store s)
-  rule_local (bank_rule r) l = bank_agrees local r l
-  rule_local (learnt_rule k) l = let c = get_or a.store k [] in clause_local B.width c (store_clause B a.store k l H.store).inside
-
-  gathers : (s : Source) (D : Set) → ((h : ℕ) → h < B.width → D h ≡ behind B.width (reads_of reading a.store s) on h) → Gathers B.width on (reads_of reading a.store s) vs D
-  gathers s D exact i h x l r e m y = exact h m ∙ any_intro B.width (λ i. reads_of reading a.store s i && on i h) i l (and_from (reads_of reading a.store s i) (on i h) r y)
-
-  -- what stands behind what a rule reads are picks and decisions
-  pub source_roots : (s : Source) (D : Set) → ((h : ℕ) → h < B.width → D h ≡ behind B.width (reads_of reading a.store s) on h) → Roots B.width a.trail D a.depth
-  source_roots s D exact h m d =
-      let q = any_true B.width (λ i. reads_of reading a.store s i && on i h) (sym (exact h m) ∙ d) in
-      let y = (and_parts (reads_of reading a.store s q.0) (on q.0 h) q.2).1 in
-      let r = K.roots q.0 q.1 (λ e. cc (bare q.0 h e, y)) h m y in
-      (r.0, omega (arith, r.1, H.sound.bounded q.0 q.1))
-
-  -- a build that has the values of what stands behind what a rule reads has the table's values there
-  behind_values : (s : Source) (D : Set) → ((h : ℕ) → h < B.width → D h ≡ behind B.width (reads_of reading a.store s) on h) → (β : Build) → Passes B.width (meets_all B) β → Has B.width a.trail D β → HasValues B.width (reads_of reading a.store s) vs β
-  behind_values s D exact = gathered B a.trail on D (reads_of reading a.store s) vs K (values_part B.width a.trail) (gathers s D exact)
-
-  -- what stands behind a dead rule clashes
-  pub source_clash : (s : Source) (D : Set) → ((h : ℕ) → h < B.width → D h ≡ behind B.width (reads_of reading a.store s) on h) → dead_rule B a.store vs s ≡ true → Clash B a.trail D a.depth
-  source_clash s D exact e =
-      let q = dead_parts B a.store vs s e in
-      record {
-        roots = source_roots s D exact;
-        none = λ β p has. cc (read_dead B.width (rule_of B a.store s) (reads_of reading a.store s) (rule_local s q.0) vs (said_of B a.store vs s) (rule_honest B L a.store a.trail s q.0) β p.whole (behind_values s D exact β p has) q.1, rule_met B a.store H.store s q.0 β p);
-      }
-
-  -- and a mark of an open option rests on it
-  pub source_rests : (s : Source) (D : Set) → ((h : ℕ) → h < B.width → D h ≡ behind B.width (reads_of reading a.store s) on h) → (o : ℕ) (x : Bool) → o < B.width → a.trail o ≡ unset → marks_at B a.store vs s o x ≡ true →
-      (β : Build) → Passes B.width (meets_all B) β → Has B.width a.trail D β → bit β o ≡ x
-  source_rests s D exact o x l f e β p has =
-      let q = marks_parts B a.store vs s o x e in
-      read_marks B.width (rule_of B a.store s) (reads_of reading a.store s) (rule_local s q.0) vs (said_of B a.store vs s) (rule_honest B L a.store a.trail s q.0) β p.whole (behind_values s D exact β p has) o x l
-      (omega (arith, at_values B.width a.trail o l, ap shown f)) q.1 (rule_met B a.store H.store s q.0 β p)
 
 -- a clash without a decision is one of picks alone
 picks_level : (e : Entry) → Root e → is_decision e ≡ false → level e ≤ 0

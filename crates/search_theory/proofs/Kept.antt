@@ -1,10 +1,9 @@
 -- What every call keeps: a session that may stand where it does may stand where the call leaves it.
-use Rattle.std.proofs.Common.{◌≡◌, ℕ, ◌+◌, ◌-◌, ◌<◌, ◌≤◌, Bool, true, false, ◌≢◌, List, [], ◌∷◌, length, get_or, set, replicate, Some, None, Option, refl, ◌∙◌, arith}
+use Rattle.std.proofs.Common.{◌≡◌, ℕ, ◌+◌, ◌-◌, ◌<◌, ◌≤◌, Bool, true, false, ◌≢◌, List, [], ◌∷◌, get_or, set, replicate, Some, None, Option, refl, ◌∙◌, arith}
 use Rattle.std.proofs.lemmas.Grind.{common_steps}
 use Rattle.std.proofs.lemmas.List.{length-set, length-replicate, get_or-set_other}
 use Rattle.builds.specs.Builds.{Build, bit}
-use Rattle.builds.specs.Values.{up_to}
-use Rattle.builds.proofs.Tables.{up_to_at, up_to_from}
+use Rattle.builds.proofs.Tables.{up_to_set}
 use Rattle.bank.specs.Banks.{Bank}
 use Rattle.search_theory.specs.Orders.{unpicked}
 use Rattle.search_theory.specs.Trails.{Store, Point, start}
@@ -34,14 +33,11 @@ kept_start B s ok = reached_start B s.picks s.point.store ok.learnt
 pub kept_second : (B : Bank) (ps qs : List ℕ) (a : Point) → Reached B ps a → Reached B qs (start qs a.store)
 kept_second B ps qs a R = reached_start B qs a.store (reached_store B ps a R)
 
-up_to_set : (m : ℕ) (ps : List ℕ) (o v : ℕ) → up_to m ps ≡ true → v ≤ m → up_to m (set ps o v) ≡ true
-up_to_set m ps o v h l = up_to_from m (set ps o v) (λ k i. (let j : k < length ps = rw length-set at i in grind (arith, common_steps, up_to_at m ps h k j)))
-
 -- a pick or a release of an option of the bank
 pub kept_set : (B : Bank) (ps : List ℕ) (o v : ℕ) → PicksOk B ps → o < B.width → v ≤ 2 → PicksOk B (set ps o v)
 kept_set B ps o v ok l m = record {
   long = length-set ps o v ∙ ok.long;
-  small = up_to_set 2 ps o v ok.small m;
+  small = up_to_set 2 ps o v m ok.small;
   inside = λ i h. (let n : i ≢ o = omega arith in get_or-set_other ps o i v 2 n ∙ ok.inside i h);
 }
 
@@ -148,7 +144,7 @@ unfolding Run
 run_more B s m s' es c r t D = (m, t, D)
 
 -- a new session
-no_picks_ok : (B : Bank) → PicksOk B no_picks
+pub no_picks_ok : (B : Bank) → PicksOk B no_picks
 no_picks_ok B = record { long = length-replicate {A = ℕ} 128 2; small = refl; inside = λ i h. none 128 i }
   where
     none : (n i : ℕ) → ◌≡◌ {A = ℕ} (get_or (replicate n 2) i 2) 2

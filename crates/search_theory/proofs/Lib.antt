@@ -8,9 +8,13 @@ pub mod Denial
 pub mod Reading
 pub mod Backs
 pub mod Jumping
+pub mod Thinning
 pub mod Answering
 pub mod Kept
 pub mod Ends
 pub mod Law
 pub mod Doing
 pub mod Witness
+pub mod Silence
+pub mod SetDenial
+pub mod TrailSets

@@ -6,9 +6,10 @@ use Rattle.builds.specs.Values.{num, allows, fits}
 use Rattle.builds.specs.Answers.{Said}
 use Rattle.bank.specs.Banks.{Honest}
 use Rattle.clauses.specs.Clause.{clause_meets}
+use Rattle.clauses.specs.Literals.{names}
 use Rattle.search_theory.specs.Searches.{is_dead, mark_is}
 use Rattle.search_theory.specs.Denials.{Set}
-use Rattle.search_theory.specs.Backed.{LocalTo, HasValues, mentions}
+use Rattle.search_theory.specs.Backed.{LocalTo, HasValues}
 use Rattle.search_theory.proofs.Values.{num_small}
 use Rattle.search_theory.proofs.Banks.{honest_dead, honest_marks}
 
@@ -64,9 +65,9 @@ module _ (W : ℕ) (p : Build → Bool) (reads : Set) (local : LocalTo W p reads
       ∙ honest_marks W p v s h o x l e (overlay v β) long' (overlay_fits v β) (alike ∙ m)
 
 -- a clause reads the options of its literals
-pub clause_local : (W : ℕ) (c : List ℕ) → ((j : ℕ) → j < length c → get_or c j 0 / 2 < W) → LocalTo W (clause_meets c) (mentions c)
+pub clause_local : (W : ℕ) (c : List ℕ) → ((j : ℕ) → j < length c → get_or c j 0 / 2 < W) → LocalTo W (clause_meets c) (names c)
 clause_local W [] inside β γ lb lc h = refl
 clause_local W (l ∷ c) inside β γ lb lc h =
-    let a = h (l / 2) (inside 0 (omega arith)) (or_left (eqb (l / 2) (l / 2)) (mentions c (l / 2)) (eq-eqb (l / 2) (l / 2) refl)) in
-    let b = clause_local W c (λ j k. inside (suc j) (omega arith)) β γ lb lc (λ o k m. h o k (or_right (eqb o (l / 2)) (mentions c o) m)) in
+    let a = h (l / 2) (inside 0 (omega arith)) (or_left (eqb (l / 2) (l / 2)) (names c (l / 2)) (eq-eqb (l / 2) (l / 2) refl)) in
+    let b = clause_local W c (λ j k. inside (suc j) (omega arith)) β γ lb lc (λ o k m. h o k (or_right (eqb o (l / 2)) (names c o) m)) in
     rw (a, b)

@@ -1,5 +1,5 @@
 -- What a value rests on: a set of picks and decisions such that every build meeting the bank that agrees with them has the value.
-use Rattle.std.specs.Prelude.{◌≡◌, ℕ, ◌/◌, ◌<◌, ◌≤◌, Bool, true, false, ◌||◌, ◌≢◌, List, [], ◌∷◌, length, ◌==◌, slice_index_or}
+use Rattle.std.specs.Prelude.{◌≡◌, ℕ, ◌<◌, ◌≤◌, Bool, true, ◌≢◌, List, length, ◌==◌, slice_index_or}
 use Rattle.builds.specs.Builds.{Build, bit, Passes}
 use Rattle.builds.specs.Values.{num}
 use Rattle.bank.specs.Banks.{Bank, meets_all}
@@ -42,11 +42,6 @@ LocalTo W p reads = (β γ : Build) → length β ≡ W → length γ ≡ W → 
 -- the build has the table's values at the options of the set
 abbrev pub HasValues : ℕ → Set → List ℕ → Build → Type 0
 HasValues W reads v β = (o : ℕ) (x : Bool) → o < W → reads o ≡ true → slice_index_or v o 2 ≡ num x → bit β o ≡ x
-
--- a literal of the clause is about the option
-abbrev pub mentions : List ℕ → Set
-mentions [] o = false
-mentions (l ∷ c) o = o == l / 2 || mentions c o
 
 -- the table holds values of the trail, perhaps not all of them
 abbrev pub PartOf : ℕ → Trail → List ℕ → Type 0

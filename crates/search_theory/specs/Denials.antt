@@ -1,14 +1,11 @@
 -- The clause that denies picks and decisions: what is learnt where they cannot stand together.
-use Rattle.std.specs.Prelude.{ℕ, zero, suc, ◌+◌, ◌*◌, Bool, true, cond, not, List, [], ◌∷◌, ◌++◌}
+use Rattle.std.specs.Prelude.{ℕ, zero, suc, ◌+◌, ◌*◌, Bool, cond, not, List, [], ◌∷◌, ◌++◌}
 use Rattle.builds.specs.Values.{num}
 use Rattle.search_theory.specs.Trails.{Entry, unset, picked, decided, implied, Trail}
 
 -- a set of options
 abbrev pub Set : Type 0
 Set = ℕ → Bool
-
-abbrev pub everything : Set
-everything h = true
 
 -- the literal against an entry that is a pick or a decision
 abbrev pub denies : ℕ → Entry → List ℕ
@@ -21,7 +18,3 @@ denies i (implied v j s) = []
 unfoldable pub denial_of : Set → ℕ → Trail → List ℕ
 denial_of D zero t = []
 denial_of D (suc n) t = denial_of D n t ++ cond (D n) (denies n (t n)) []
-
--- the clause against all of them
-abbrev pub denial : ℕ → Trail → List ℕ
-denial = denial_of everything

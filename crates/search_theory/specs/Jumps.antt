@@ -1,10 +1,10 @@
 -- What a conflict is analysed by: the rule that is dead, what it reads, and the decisions that the clash has.
 use Rattle.std.specs.Prelude.{◌≡◌, ℕ, zero, suc, ◌<◌, max, Bool, true, false, cond, ◌&&◌, List, [], length, nat_lt, slice_index_or}
 use Rattle.bank.specs.Banks.{Bank}
+use Rattle.clauses.specs.Literals.{names}
 use Rattle.search_theory.specs.Trails.{Entry, unset, picked, decided, implied, level, Trail, Store, Source, bank_rule, learnt_rule}
 use Rattle.search_theory.specs.Searches.{any_below, is_dead, clause_dead}
 use Rattle.search_theory.specs.Denials.{Set}
-use Rattle.search_theory.specs.Backed.{mentions}
 
 -- just this rule is dead at the values
 abbrev pub dead_rule : Bank → Store → List ℕ → Source → Bool
@@ -14,7 +14,11 @@ dead_rule B st vs (learnt_rule k) = nat_lt k (length st) && clause_dead B.width 
 -- the options that a rule reads: a learnt one reads those of its literals
 abbrev pub reads_of : (ℕ → ℕ → Bool) → Store → Source → Set
 reads_of reading st (bank_rule r) = reading r
-reads_of reading st (learnt_rule k) = mentions (slice_index_or st k [])
+reads_of reading st (learnt_rule k) = names (slice_index_or st k [])
+
+-- the options of the set that have a value in the table
+abbrev pub valued_in : List ℕ → Set → Set
+valued_in v D i = D i && nat_lt (slice_index_or v i 2) 2
 
 -- all that the values at the options of the set rest on, of the first W
 abbrev pub behind : ℕ → Set → (ℕ → Set) → Set

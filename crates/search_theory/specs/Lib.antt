@@ -10,3 +10,5 @@ pub mod Denials
 pub mod Backed
 pub mod Jumps
 pub mod Kept
+pub mod Silence
+pub mod SetDenials

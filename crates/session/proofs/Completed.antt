@@ -21,11 +21,12 @@ use Rattle.search_theory.specs.Values.{value_number}
 use Rattle.trail.specs.Beginning.{Begun}
 use Rattle.trail.proofs.Starts.{begun_start}
 use Rattle.search.specs.Standing.{Standing, end_by}
-use Rattle.search.proofs.Stands.{reached_standing}
+use Rattle.search.proofs.Stands.{standing_prop, standing_begin}
 use Rattle.search.specs.declared.search.Search.{Search as Running}
 use Rattle.search.specs.declared.verdict.Verdict.{Verdict}
 use Rattle.search.specs.declared.verdict.Verdict.TheVariants.{Build as Found, NoBuild, Spent}
-use Rattle.session.specs.Stands.{state}
+use Rattle.session.specs.Stands.{state, GoesOn}
+use Rattle.session.proofs.Keeping.{closed_ok}
 use Rattle.session.specs.Completing.{stays_open, filled, completion_reply, FirstFound}
 
 -- the build can be read off the place that it fills
@@ -63,13 +64,16 @@ unfolding answer_to
 answered_whole B ps a e = e
 
 -- the open search may go on
-pub open_standing : (B : Bank) (ps : List (Option Bool)) (s : Running) (going : Bool) → ∥ SessionOk B (state ps s going) ∥₁ → going ≡ true → Standing B (map value_number ps) s
-open_standing B ps s going h e = reached_standing B (map value_number ps) s (∥∥₁_map h (λ ok. ok.reached e))
+pub open_standing : (B : Bank) (ps : List (Option Bool)) (s : Running) (going : Bool) → GoesOn B ps s going → going ≡ true → Standing B (map value_number ps) s
+open_standing B ps s going h e = ∥∥₁_elim h (standing_prop B (map value_number ps) s) (λ f. f e)
 
 -- a search that begins is open
 pub begun_ok : (B : Bank) (ps : List (Option Bool)) (s : Running) (t : Table) (going : Bool) → Begun (map value_number ps) t → ∥ SessionOk B (state ps s going) ∥₁ → ∥ SessionOk B (state ps (record s { trail = t }) true) ∥₁
 begun_ok B ps s t going b h =
     ∥∥₁_map h (λ ok. record { picks = ok.picks; learnt = ok.learnt; reached = λ e. rw (begun_start (map value_number ps) t s.learnt b) (kept_start B (state ps s going) ok) })
+
+pub begun_goes : (B : Bank) (ps : List (Option Bool)) (s : Running) (t : Table) (going : Bool) → Begun (map value_number ps) t → ∥ SessionOk B (state ps s going) ∥₁ → GoesOn B ps (record s { trail = t }) true
+begun_goes B ps s t going b h = ∣ (λ e. standing_begin B (map value_number ps) (record s { trail = t }) b (closed_ok B (state ps s going) h).learnt) ∣₁
 
 -- a search that goes on from where it may leaves the session where it may stand
 pub searched_ok : (B : Bank) (s s' : State) (budget n : ℕ) (e : End) → s.searching ≡ true → Search (quest B s.picks) budget s.point n s'.point e → s'.picks ≡ s.picks → s'.searching ≡ goes_on e → ∥ SessionOk B s ∥₁ → ∥ SessionOk B s' ∥₁

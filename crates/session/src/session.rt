@@ -1,7 +1,7 @@
 // A session: one bank, the picks, where its last search stands with what was learnt, and whether that search is open.
 // The calls on it stand in files of their own.
 // Several of them state bank, picks, refusal, refused and does anew: each relates the session before a call to that after it, which no type holds (d).
-ghost use Rattle.session.specs.Stands.{Stands};
+ghost use Rattle.session.specs.Stands.{Stands, GoesOn};
 
 use bank::rule_bank::RuleBank;
 use search::search::Search;
@@ -16,6 +16,7 @@ pub struct Session<B: RuleBank> {
     pub(crate) search: Search,
     pub(crate) searching: bool,
     ghost stands: { Stands (B.meaning bank) picks search searching },
+    ghost goes_on: { GoesOn (B.meaning bank) picks search searching },
 }
 
 impl<B: RuleBank> Session<B> {

@@ -28,9 +28,6 @@ swept_reply true true x z k r e = e
 swept_reply true false x z k r e = cc
 swept_reply false roomy x z k r e = cc
 
-pub swept : {S : Type 0} (known roomy : Bool) (x y : S) → known ≡ true → roomy ≡ true → Ok y ≡ sweep_reply known roomy x → y ≡ x
-swept known roomy x y k r e = let h = swept_reply known roomy x (Ok y) k r e in cc
-
 -- and fills the column
 pub swept_column : {S : Type 0} (known roomy : Bool) (f : ℕ → S) (m : ℕ) (old new : List S) → known ≡ true → roomy ≡ true → new ≡ column_place (known && roomy) f m old → new ≡ filled f m old
 swept_column known roomy f m old new k r e = e ∙ ap (λ b. column_place b f m old) (and_from known roomy k r)

@@ -1,5 +1,5 @@
 // What a sweep computes with: a sum and a product that keep the laws of a semiring.
-// The base has yes/no for marking and numbers modulo 2^64 for counting; a third one needs no change to column or sweep.
+// The base has yes/no (is there a build?) and numbers modulo 2^64 (how many are there?); a third one needs no change to column or sweep.
 ghost use Rattle.std.specs.Prelude.{◌≡◌, true, false, ◌&&◌, ◌||◌};
 ghost use Rattle.diagram_theory.specs.Semirings.{Laws};
 ghost use Rattle.diagram_theory.specs.Models.{or_and, modular, any_bool, below_64, sum_64, product_64};

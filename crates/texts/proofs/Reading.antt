@@ -1,10 +1,10 @@
 -- Reading line after line: what is left of the text decides, from the value so far.
-use Rattle.std.proofs.Common.{◌≡◌, ℕ, ◌+◌, ◌<◌, List, [], ◌∷◌, length, Ok, Err, Result, sym, refl, ap, ◌∙◌, subst, arith}
+use Rattle.std.proofs.Common.{◌≡◌, ℕ, ◌+◌, ◌<◌, List, [], ◌∷◌, length, Some, Ok, Err, Result, sym, refl, ap, ◌∙◌, subst, arith}
 use Rattle.lines.specs.Lines.{Line, lines_of}
 use Rattle.texts.specs.declared.faults.Text.{Text}
 use Rattle.texts.specs.declared.faults.Cause.{Cause}
 use Rattle.texts.specs.Faults.{Layered, Fault, at_line}
-use Rattle.texts.specs.Causes.{TextFault, layered, fault_of, text_number, placed_at, line_said}
+use Rattle.texts.specs.Causes.{TextFault, layered, fault_of, text_number, line_told, placed_at, line_said}
 use Rattle.texts.specs.Fields.{carried}
 use Rattle.texts.proofs.Placing.{placed_ok, placed_err}
 use Rattle.texts.specs.Reading.{read_lines, kept_by, read_until}
@@ -35,7 +35,7 @@ module _ {X : Type 0} where
           }
 
       -- the line is at fault
-      pub reading_stopped : (n : ℕ) → n ≡ count → (f : Layered) → Err f ≡ step y l → (read_lines text step 1 x (lines_of bytes) ≡ Err (at_line text (n + 1) f)) × (read_until step x (lines_of bytes) ≡ y)
+      pub reading_stopped : (n : ℕ) → n ≡ count → (f : Layered) → Err f ≡ step y l → (read_lines text step 1 x (lines_of bytes) ≡ Err (at_line text (Some (n + 1)) f)) × (read_until step x (lines_of bytes) ≡ y)
       unfolding read_lines read_until
       reading_stopped n z f e = (
         rw z (sym so_far.result ∙ ap (read_lines text step (count + 1) y) next ∙ ap (λ r. carried text (count + 1) r (λ v. read_lines text step (count + 1 + 1) v (lines_of later))) (sym e)),
@@ -47,7 +47,7 @@ pub record Handed {X : Type 0} (t : Text) (n : ℕ) (r : Result (Unit {0}) Cause
   pub cause : Cause
   pub was : r ≡ Err cause
   pub stops : Err (layered cause) ≡ s
-  pub fault : fault_of f ≡ at_line (text_number t) n (layered cause)
+  pub fault : fault_of f ≡ at_line (text_number t) (Some n) (layered cause)
 
 module _ {X : Type 0} (t : Text) (n : ℕ) (r : Result (Unit {0}) Cause) (x : X) (s : Result X Layered) (said : line_said r x ≡ s) where
   pub said_read : Ok tt ≡ placed_at t n r → Ok x ≡ s
@@ -63,9 +63,9 @@ carried_ok : {X Y : Type 0} (P : Y → Type 0) (text n : ℕ) (r : Result X Laye
 carried_ok P text n (Ok x) go y h e = h x refl e
 carried_ok P text n (Err f) go y h e = cc
 
-carried_err : {X Y : Type 0} (text n m : ℕ) (r : Result X Layered) (go : X → Result Y Fault) (f : Fault) → n < m → ((x : X) → go x ≡ Err f → f.line < m) → carried text n r go ≡ Err f → f.line < m
+carried_err : {X Y : Type 0} (text n m : ℕ) (r : Result X Layered) (go : X → Result Y Fault) (f : Fault) → n < m → ((x : X) → go x ≡ Err f → line_told f.line < m) → carried text n r go ≡ Err f → line_told f.line < m
 carried_err text n m (Ok x) go f l h e = h x e
-carried_err text n m (Err g) go f l h e = let z : at_line text n g ≡ f = cc in let k = ap (λ (x : Fault). x.line) z in omega arith
+carried_err text n m (Err g) go f l h e = let z : at_line text (Some n) g ≡ f = cc in let k = ap (λ (x : Fault). line_told x.line) z in omega arith
 
 module _ {X : Type 0} (text : ℕ) (step : X → Line → Result X Layered) where
   -- what each line keeps holds after the last
@@ -75,7 +75,7 @@ module _ {X : Type 0} (text : ℕ) (step : X → Line → Result X Layered) wher
   lines_keep P keep n x (l ∷ ls) y h e = carried_ok P text n (step x l) (λ z. read_lines text step (n + 1) z ls) y (λ z s k. lines_keep P keep (n + 1) z ls y (keep x l z h s) k) e
 
   -- a fault is at one of the lines
-  pub fault_line : (n : ℕ) (x : X) (ls : List Line) (f : Fault) → read_lines text step n x ls ≡ Err f → f.line < n + length ls
+  pub fault_line : (n : ℕ) (x : X) (ls : List Line) (f : Fault) → read_lines text step n x ls ≡ Err f → line_told f.line < n + length ls
   unfolding read_lines
   fault_line n x [] f e = cc
   fault_line n x (l ∷ ls) f e =

@@ -1,6 +1,6 @@
 -- The layer and the number of each fault that the code hands up.
 use Rattle.std.specs.Prelude.{ℕ, List, Some, None, Ok, Err, Option, Result}
-use Rattle.bank.specs.Numbers.{number_of, cause_number}
+use Rattle.bank.specs.Numbers.{number_of, located_of}
 use Rattle.arrayvec.specs.ArrayVec.{ArrayVec}
 use Rattle.texts.specs.declared.faults.LineFault.{LineFault}
 use Rattle.texts.specs.declared.faults.LineFault.TheVariants.{Letter, Length, Field, TooLong}
@@ -20,7 +20,7 @@ line_number TooLong = 24
 
 abbrev pub layered : Cause → Layered
 layered (Line f) = line_fault (line_number f)
-layered (Table f) = table_fault (cause_number f.cause)
+layered (Table f) = table_fault (located_of f)
 layered (Session r) = session_fault (number_of r)
 
 abbrev pub text_number : Text → ℕ
@@ -42,7 +42,7 @@ TextFault = AtLine Cause
 
 -- the same by its numbers
 abbrev pub fault_of : TextFault → Fault
-fault_of f = at_line (text_told f.text) (line_told f.line) (layered f.cause)
+fault_of f = at_line (text_told f.text) f.line (layered f.cause)
 
 -- a fault with the line at which it came
 abbrev pub placed_at : {X E : Type 0} → Text → ℕ → Result X E → Result X (AtLine E)

@@ -42,4 +42,4 @@ listed_rest n k l go = cond (whole_line (n + k) l) (with_fields (fields k (drop 
 -- go on after a line, or hand its fault up with its line number
 abbrev pub carried : {X Y : Type 0} → ℕ → ℕ → Result X Layered → (X → Result Y Fault) → Result Y Fault
 carried text n (Ok x) go = go x
-carried text n (Err f) go = Err (at_line text n f)
+carried text n (Err f) go = Err (at_line text (Some n) f)

@@ -5,25 +5,25 @@ use Rattle.std.proofs.lemmas.Bool.{cases_lt}
 use Rattle.std.proofs.lemmas.List.{get_or-set_same, get_or-set_other, get_or_append_left, get_or_push, get_or-take, length-take, length-map, length_push, map-set, map_push, get_or-map, ext_get_or}
 use Rattle.std.proofs.lemmas.List.FromFn.{length-map-range_with_len, get_or-map-range_with_len}
 use Rattle.arrayvec.specs.ArrayVec.{ArrayVec, array_vec_len}
-use Rattle.clauses.specs.declared.literal.Literal.{Literal}
-use Rattle.clauses.specs.Literals.{numbers}
+use Rattle.clauses.specs.declared.set_clause.SetClause.{SetClause}
+use Rattle.clauses.specs.TwoSets.{spelled}
 use Rattle.trail.specs.Ring.{slot, ring}
 
-module _ (next : ℕ) (v : ArrayVec (List Literal)) where
+module _ (next : ℕ) (v : ArrayVec SetClause) where
   pub ring_none : v.items ≡ [] → ring next v ≡ []
   unfolding ring
-  ring_none e = ap (λ xs. map (λ age. get_or (map numbers xs) (slot next age) []) (range_with_len 0 (length xs))) e
+  ring_none e = ap (λ xs. map (λ age. get_or (map spelled xs) (slot next age) []) (range_with_len 0 (length xs))) e
 
   pub ring_length : length (ring next v) ≡ array_vec_len v
   unfolding ring
-  ring_length = length-map-range_with_len (λ age. get_or (map numbers v.items) (slot next age) []) 0 (array_vec_len v)
+  ring_length = length-map-range_with_len (λ age. get_or (map spelled v.items) (slot next age) []) 0 (array_vec_len v)
 
   -- the clause of an age, read from the ring's slice
-  pub ring_read : (slice : List (List Literal)) (age : ℕ) (c : List Literal) → slice ≡ v.items → slot next age < array_vec_len v → age < array_vec_len v → c ≡ get_or slice (slot next age) c → numbers c ≡ get_or (ring next v) age []
+  pub ring_read : (slice : List SetClause) (age : ℕ) (d : SetClause) → slice ≡ v.items → slot next age < array_vec_len v → age < array_vec_len v → spelled (get_or slice (slot next age) d) ≡ get_or (ring next v) age []
   unfolding ring
-  ring_read slice age c same l h e =
-      ap numbers (e ∙ ap (λ xs. get_or xs (slot next age) c) same) ∙ sym (get_or-map numbers v.items (slot next age) c [] l)
-      ∙ sym (get_or-map-range_with_len (λ k. get_or (map numbers v.items) (slot next k) []) 0 (array_vec_len v) age age [] h (omega arith))
+  ring_read slice age d same l h =
+      ap (λ xs. spelled (get_or xs (slot next age) d)) same ∙ sym (get_or-map spelled v.items (slot next age) d [] l)
+      ∙ sym (get_or-map-range_with_len (λ k. get_or (map spelled v.items) (slot next k) []) 0 (array_vec_len v) age age [] h (omega arith))
 
 -- each of n clauses has its place among them
 pub slot_below : (next n age : ℕ) → next < 192 → n ≤ 192 → (n < 192 → next ≡ n) → age < n → slot next age < n
@@ -81,25 +81,25 @@ module _ (next : ℕ) (rows : List (List ℕ)) (row : List ℕ) (in-ring : next 
       let z : slot next j ≡ next - 1 - j = omega arith in
       rw e (get_or_append_left rows (row ∷ []) [] (slot next j) (omega arith))
 
-module _ (next : ℕ) (v u : ArrayVec (List Literal)) (clause : List Literal) (in-ring : next < 192) where
-  pub ring_set : array_vec_len v ≡ 192 → u.items ≡ set v.items next clause → ring ((next + 1) % 192) u ≡ take 192 (numbers clause ∷ ring next v)
+module _ (next : ℕ) (v u : ArrayVec SetClause) (clause : SetClause) (in-ring : next < 192) where
+  pub ring_set : array_vec_len v ≡ 192 → u.items ≡ set v.items next clause → ring ((next + 1) % 192) u ≡ take 192 (spelled clause ∷ ring next v)
   unfolding ring
   ring_set n e =
-      let rows = map numbers v.items in
-      let es : map numbers u.items ≡ set rows next (numbers clause) = ap (map numbers) e ∙ map-set numbers v.items next clause in
+      let rows = map spelled v.items in
+      let es : map spelled u.items ≡ set rows next (spelled clause) = ap (map spelled) e ∙ map-set spelled v.items next clause in
       let m : array_vec_len u ≡ 192 = omega (arith, ap length e, length-set v.items next clause, n) in
-      let w : length rows ≡ 192 = length-map v.items numbers ∙ n in
+      let w : length rows ≡ 192 = length-map v.items spelled ∙ n in
       ap (λ r. map (aged ((next + 1) % 192) r) (range_with_len 0 (array_vec_len u))) es
-      ∙ more_rows (array_vec_len v) (array_vec_len u) (aged next rows) (aged ((next + 1) % 192) (set rows next (numbers clause))) (numbers clause)
-      (set_newest next rows (numbers clause) in-ring w) (λ j l k. set_older next rows (numbers clause) in-ring w j l) (λ h. omega arith) (λ h. m)
+      ∙ more_rows (array_vec_len v) (array_vec_len u) (aged next rows) (aged ((next + 1) % 192) (set rows next (spelled clause))) (spelled clause)
+      (set_newest next rows (spelled clause) in-ring w) (λ j l k. set_older next rows (spelled clause) in-ring w j l) (λ h. omega arith) (λ h. m)
 
-  pub ring_push : array_vec_len v < 192 → next ≡ array_vec_len v → u.items ≡ v.items ++ (clause ∷ []) → ring ((next + 1) % 192) u ≡ take 192 (numbers clause ∷ ring next v)
+  pub ring_push : array_vec_len v < 192 → next ≡ array_vec_len v → u.items ≡ v.items ++ (clause ∷ []) → ring ((next + 1) % 192) u ≡ take 192 (spelled clause ∷ ring next v)
   unfolding ring
   ring_push l n e =
-      let rows = map numbers v.items in
-      let es : map numbers u.items ≡ rows ++ (numbers clause ∷ []) = ap (map numbers) e ∙ map_push numbers v.items clause in
+      let rows = map spelled v.items in
+      let es : map spelled u.items ≡ rows ++ (spelled clause ∷ []) = ap (map spelled) e ∙ map_push spelled v.items clause in
       let m : array_vec_len u ≡ array_vec_len v + 1 = ap length e ∙ length_push v.items clause in
-      let w : next ≡ length rows = n ∙ sym (length-map v.items numbers) in
+      let w : next ≡ length rows = n ∙ sym (length-map v.items spelled) in
       ap (λ r. map (aged ((next + 1) % 192) r) (range_with_len 0 (array_vec_len u))) es
-      ∙ more_rows (array_vec_len v) (array_vec_len u) (aged next rows) (aged ((next + 1) % 192) (rows ++ (numbers clause ∷ []))) (numbers clause)
-      (push_newest next rows (numbers clause) in-ring w) (λ j i k. push_older next rows (numbers clause) in-ring w j i (omega (arith, n, w))) (λ h. m) (λ h. omega arith)
+      ∙ more_rows (array_vec_len v) (array_vec_len u) (aged next rows) (aged ((next + 1) % 192) (rows ++ (spelled clause ∷ []))) (spelled clause)
+      (push_newest next rows (spelled clause) in-ring w) (λ j i k. push_older next rows (spelled clause) in-ring w j i (omega (arith, n, w))) (λ h. m) (λ h. omega arith)

@@ -4,9 +4,9 @@ use Rattle.std.specs.List.{range_with_len}
 use Rattle.std.proofs.lemmas.Bool.{cond-true, le-leb}
 use Rattle.std.proofs.lemmas.List.{get_or-set_same, get_or-set_other, get_or_default, get_or-map, length-map, length-append, take-append-drop, ext_get_or}
 use Rattle.std.proofs.lemmas.List.Edits.{map_over_more}
-use Rattle.std.proofs.lemmas.List.FromFn.{fill_by_all, length-map-range_with_len, get_or-map-range_with_len}
+use Rattle.std.proofs.lemmas.List.FromFn.{length-map-range_with_len, get_or-map-range_with_len}
 use Rattle.builds.specs.Values.{num}
-use Rattle.search_theory.specs.Trails.{unset, decided, level, value, cut, Trail, start_entry, read, Full}
+use Rattle.search_theory.specs.Trails.{unset, level, value, cut, Trail, start_entry, read, Full}
 use Rattle.search_theory.specs.Searches.{shown, values_from}
 use Rattle.search_theory.proofs.Sound.{cut_keeps, length_read, read_bit}
 use Rattle.search_theory.proofs.Banks.{length_values, at_values}
@@ -14,7 +14,7 @@ use Rattle.trail.specs.declared.entry.Entry.{Entry as Row}
 use Rattle.trail.specs.declared.entry.Entry.TheVariants.{Picked, Decided, Implied}
 use Rattle.search_theory.specs.Values.{value_number}
 use Rattle.trail.specs.View.{trail_of, entry_of}
-use Rattle.trail.specs.Rows.{start_row, kept_row, Lowest, Last, NoLast}
+use Rattle.trail.specs.Rows.{start_row, kept_row, Lowest}
 use Rattle.trail.specs.Building.{handed}
 
 -- a write changes the entry of its option alone
@@ -53,8 +53,8 @@ start_numbers [] = refl
 start_numbers (p ∷ ps) = rw (start_number p, start_numbers ps)
 
 -- the entries of the picks, index by index
-pub picks_read : (n : ℕ) (ps : List (Option Bool)) → length ps ≡ n → map (option_map Picked) ps ≡ map (λ i. option_map Picked (get_or ps i None)) (range_with_len 0 n)
-picks_read n ps l = fill_by_all (λ i. option_map Picked (get_or ps i None)) (map (option_map Picked) ps) n None (length-map ps (option_map Picked) ∙ l) (λ k m. get_or-map (option_map Picked) ps k None None (omega arith))
+pub picks_all : (ps : List (Option Bool)) (es : List (Option Row)) → length ps ≡ 128 → length es ≡ 128 → ((k : ℕ) → k < 128 → get_or es k None ≡ option_map Picked (get_or ps k None)) → es ≡ map (option_map Picked) ps
+picks_all ps es l n f = ext_get_or None es (map (option_map Picked) ps) (n ∙ sym (length-map ps (option_map Picked) ∙ l)) (λ k m. f k (omega arith) ∙ sym (get_or-map (option_map Picked) ps k None None (omega arith)))
 
 -- what a test for a value says of the trail
 pub open_is : (e : Option Row) → is_some e ≡ false → entry_of e ≡ unset
@@ -65,16 +65,12 @@ pub valued_is : (e : Option Row) → is_some e ≡ true → entry_of e ≢ unset
 valued_is None h = cc
 valued_is (Some (Picked v)) h = λ q. cc
 valued_is (Some (Decided k)) h = λ q. cc
-valued_is (Some (Implied v k s)) h = λ q. cc
+valued_is (Some (Implied v k s D)) h = λ q. cc
 
 -- what a search of the options from 0 on found
 pub lowest_found : (w : ℕ) (t : Trail) (r : Option ℕ) → MatchOption r ((k : ℕ) → 0 ≤ k → k < w → t k ≢ unset) (λ i. (0 ≤ i) × (i < w) × (t i ≡ unset) × ((k : ℕ) → 0 ≤ k → k < i → t k ≢ unset)) → MatchOption r (Full w t) (Lowest w t)
 lowest_found w t None h = λ k. h k (omega arith)
 lowest_found w t (Some i) h = record { within = h.1; free = h.2; lowest = λ k. h.3 k (omega arith) }
-
-pub last_found : (w : ℕ) (t : Trail) (d : ℕ) (r : Option ℕ) → 0 < d → MatchOption r ((k : ℕ) → 0 ≤ k → k < w → t k ≢ decided d) (λ i. (0 ≤ i) × (i < w) × (t i ≡ decided d) × ((k : ℕ) → 0 ≤ k → k < i → t k ≢ decided d)) → MatchOption r (NoLast w t d) (Last w t d)
-last_found w t d None p h = λ q k. h k (omega arith)
-last_found w t d (Some i) p h = record { stands = p; within = h.1; decision = h.2 }
 
 -- the values of a trail as a list made from a function of the option
 pub values_made : (n : ℕ) (t : Trail) → values_from n 0 t ≡ map (λ i. shown (t i)) (range_with_len 0 n)

@@ -1,7 +1,14 @@
 // The trail: one entry for each option, none where it is open, and how many decisions stand. A search begins with the picks alone.
-ghost use Rattle.std.specs.Prelude.{◌≡◌, length};
+// The values stand in two sets besides, kept in step with the entries, so that a learnt clause is tested in a few operations.
+ghost use Rattle.std.specs.Prelude.{◌≡◌, ◌<◌, List, Option, length, slice_set};
+ghost use Rattle.clauses.specs.TwoSets.{InStep};
+ghost use Rattle.search_theory.specs.Searches.{values_from};
+ghost use Rattle.trail.specs.Entries.{trail_of};
+ghost use Rattle.trail.specs.declared.entry.Entry.{Entry as Row};
 
 use crate::entry::{Entry, shown};
+use clauses::value_sets::ValueSets;
+use option_set::OptionSet;
 use std::array;
 
 // Room for every option that a bank can have, so that no call fails for want of memory.
@@ -9,15 +16,30 @@ use std::array;
 pub struct Trail {
     pub(crate) entries: [Option<Entry>; 128],
     pub(crate) depth: u8,
+    pub(crate) value_sets: ValueSets,
     ghost sized: { length entries ≡ 128 },
+    ghost in_step: { InStep value_sets (values_from 128 0 (trail_of entries)) },
+}
+
+// The sets of values once the option has this entry.
+fn with_entry(value_sets: ValueSets, option: usize, entry: Option<Entry>) -> ValueSets
+    ensures { (t : List (Option Row)) → length t ≡ 128 → option < 128 → InStep value_sets (values_from 128 0 (trail_of t)) → InStep result (values_from 128 0 (trail_of (slice_set t option entry))) }
+{
+    match entry {
+        Some(entry) => value_sets.give(option, entry.value()),
+        None => value_sets.take_back(option),
+    }
 }
 
 impl Trail {
-    ghost use Rattle.std.specs.Prelude.{map, replicate, Some, None, option_map, slice_index_or, slice_set};
-    ghost use Rattle.search_theory.specs.Searches.{shown as shown_of, values_from};
+    ghost use Rattle.std.specs.Prelude.{ℕ, map, replicate, Some, None, option_map, slice_index_or};
+    ghost use Rattle.search_theory.specs.Trails.{level as level_of};
+    ghost use Rattle.search_theory.specs.Searches.{shown as shown_of};
     ghost use Rattle.trail.specs.declared.entry.Entry.TheVariants.{Picked};
     ghost use Rattle.search_theory.specs.Values.{value_number};
-    ghost use Rattle.trail.specs.View.{trail_of};
+    ghost use Rattle.option_set.specs.Sets.{member};
+    ghost use Rattle.search_theory.specs.Jumps.{is_decision};
+    ghost use Rattle.trail.specs.Support.{supports};
     ghost use Rattle.trail.specs.Building.{handed};
     ghost use Rattle.trail.specs.Beginning.{Begun};
 
@@ -29,6 +51,7 @@ impl Trail {
         Trail {
             entries: [None; 128],
             depth: 0,
+            value_sets: ValueSets::empty(),
         }
     }
 
@@ -38,15 +61,14 @@ impl Trail {
         ensures depth { self.new.depth ≡ 0 }
         ensures begun { Begun (map value_number picks.now) self.new }
     {
-        self.entries = array::from_fn(|option| picks[option].map(Entry::Picked));
+        let mut value_sets = self.value_sets;
+        // written in place: a table that `from_fn` hands over is copied three times on its way, 24 KiB of stack
+        for (option, entry) in self.entries.iter_mut().enumerate() {
+            *entry = picks[option].map(Entry::Picked);
+            value_sets = with_entry(value_sets, option, *entry);
+        }
+        self.value_sets = value_sets;
         self.depth = 0;
-    }
-
-    // How many decisions stand.
-    pub fn depth(&self) -> u8
-        ensures { result ≡ self.now.depth }
-    {
-        self.depth
     }
 
     // The option's entry; past the table every option is open.
@@ -54,6 +76,30 @@ impl Trail {
         ensures { result ≡ slice_index_or self.now.entries option None }
     {
         *self.entries.get(option)?
+    }
+
+    // Whether the option's value is a decision.
+    pub fn is_decision(&self, option: usize) -> bool
+        ensures { result ≡ is_decision (trail_of self.now.entries option) }
+    {
+        matches!(self.entry(option), Some(Entry::Decided(_)))
+    }
+
+    // How many decisions the option's value stands on; an open option stands on none.
+    pub fn level(&self, option: usize) -> u8
+        ensures { result ≡ level_of (trail_of self.now.entries option) }
+    {
+        self.entry(option).map_or(0, Entry::level)
+    }
+
+    // The picks and decisions that the option's value rests on; an open option rests on none.
+    pub fn support(&self, option: usize) -> OptionSet
+        ensures { (h : ℕ) → h < 128 → member result.members h ≡ supports self.now.entries option h }
+    {
+        match self.entry(option) {
+            Some(entry) => entry.support(option),
+            None => OptionSet::empty(),
+        }
     }
 
     // The option's value, if it has one.
@@ -71,6 +117,13 @@ impl Trail {
         array::from_fn(|option| shown(self.entries[option]))
     }
 
+    // The values of all options as two sets.
+    pub fn value_sets(&self) -> ValueSets
+        ensures { InStep result (values_from 128 0 (trail_of self.now.entries)) }
+    {
+        self.value_sets
+    }
+
     // Gives the option the entry, where the table has such an option; no other entry changes.
     // By index: of a slice's `get_mut` a proof does not know what was written through it.
     #[tactic(auto, using(std::proofs::lemmas::List::set_past))]
@@ -80,6 +133,7 @@ impl Trail {
     {
         if option < self.entries.len() {
             self.entries[option] = Some(entry);
+            self.value_sets = with_entry(self.value_sets, option, Some(entry));
         }
     }
 

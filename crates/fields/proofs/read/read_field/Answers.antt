@@ -1,26 +1,15 @@
 use Rattle.std.proofs.Common.{◌≡◌, ◌+◌, length, drop, None, ap, ◌∙◌, sym, arith}
-use Rattle.std.proofs.lemmas.Grind.{common_steps}
 use Rattle.std.proofs.lemmas.Bool.{cond-true, eq-eqb}
 use Rattle.std.proofs.lemmas.Bool.Decides.{nat_tests}
 use Rattle.std.specs.Option.{option_and_then}
 use Rattle.std.proofs.lemmas.List.{at_drop_more, at_drop_all}
 use Rattle.fields.specs.Reading.{number_from, field_value}
-use Rattle.fields.proofs.Columns.{field_law, small_enough, small_after}
+use Rattle.fields.proofs.Columns.{field_law}
 use Rattle.fields.proofs.read.read_field.Goals as goal
-
-pub after-requires : goal.after-requires
-after-requires c = small_enough c.loop-byte.byte-index c.loop-byte.seen (omega arith) c.loop-byte.invariant.1
 
 pub returns-then-bytes-ne-COLUMNS : goal.returns-then-bytes-ne-COLUMNS
 unfolding field_value
 returns-then-bytes-ne-COLUMNS c = record { value = grind (arith, nat_tests); law = field_law }
-
-pub loop-byte-preserved : goal.loop-byte-preserved
-loop-byte-preserved c =
-    let s = c.loop-byte.seen in
-    let one = at_drop_more (number_from s) c.args.bytes.now c.loop-byte.byte-index 0 in
-    let more = small_after c.loop-byte.byte-index s in
-    grind (arith, common_steps)
 
 pub returns-in_err-seen : goal.returns-in_err-seen
 unfolding field_value

@@ -1,15 +1,7 @@
-use Rattle.std.proofs.Common.{◌≡◌, ◌+◌, ap, arith}
-use Rattle.std.specs.Iterator.Adapters.{enumerate_source}
+use Rattle.std.proofs.Common.{◌+◌, ap, arith}
 use Rattle.lines.specs.Said.{line_of}
-use Rattle.texts.proofs.LineNumbers.{placing_begun, placing_on, taken_closed, taken_open, line_placed, line_there, none_placed, none_numbered, within}
+use Rattle.texts.proofs.LineNumbers.{placing_on, taken_closed, taken_open, line_placed, line_there, none_placed, none_numbered, within}
 use Rattle.texts.proofs.line_place.line_place.Goals as goal
-
-pub loop-before-init : goal.loop-before-init
-loop-before-init c =
-    let items = c.enumerate-before-items.ensures in
-    let same = c.into_iter-before-iterator.ensures.into_iter_gives in
-    let at_text : (enumerate_source c.into_iter-before-iterator.result).rest.now ≡ c.args.text.now = cc (items.source, c.new.ensures.rest) in
-    placing_begun c.args.text.now _ c.args.number _ at_text (cc (items.count))
 
 pub returns-then-before-number : goal.returns-then-before-number
 returns-then-before-number c =

@@ -1,12 +1,15 @@
+use Rattle.std.proofs.Common.{true, false}
+use Rattle.diagram_theory.specs.Seen.{lets}
 use Rattle.diagram_theory.proofs.Reached.{Sound, Whole}
-use Rattle.diagram_bank.specs.Found.{zeros, ones}
+use Rattle.diagram_bank.specs.Found.{all_zeros, all_ones}
 use Rattle.diagram_bank.proofs.descent.Descent.from_root.Given as goal
 
 abbrev pub invariant-loop-r : goal.invariant-loop-r
 invariant-loop-r l =
-    let bank = l.self.weighed.bank.now in
-    let allowed = l.self.weighed.weights.now in
+    let bank = l.self.bank.now in
+    let w = bank.width in
+    let v = l.self.values.now in
     record {
-      sound : Sound bank.width bank.rows.now allowed.low.now allowed.high.now l.root l.found.reached (zeros l.found.seen) (ones l.found.seen);
-      whole : Whole bank.width bank.rows.now allowed.low.now allowed.high.now l.root l.found.reached (zeros l.found.seen) (ones l.found.seen) l.r;
+      sound : Sound w bank.rows.now (lets false v) (lets true v) l.root l.found.reached (all_zeros w v l.found) (all_ones w v l.found);
+      whole : Whole w bank.rows.now (lets false v) (lets true v) l.root l.found.reached (all_zeros w v l.found) (all_ones w v l.found) l.r;
     }

@@ -1,40 +1,36 @@
-use Rattle.std.proofs.Common.{◌≡◌, ◌-◌, ◌∷◌, map, take, set, true, sym, refl, ap, ◌∙◌, arith}
-use Rattle.search_theory.specs.Denials.{denial}
-use Rattle.trail.specs.View.{trail_of, store_of}
-use Rattle.trail.specs.declared.entry.Source.TheVariants.{Learnt as FromLearnt}
-use Rattle.trail.specs.Rows.{kept_row, rule_row}
-use Rattle.search.proofs.Stepping.{decided_step, implied_step, flipped_step, hopeless}
+use Rattle.std.proofs.Common.{sym, refl, arith}
+use Rattle.search_theory.specs.Searches.{values_from}
+use Rattle.search_theory.proofs.Jumping.{dead_any}
+use Rattle.trail.specs.View.{source_of, trail_of, store_of}
+use Rattle.search.specs.declared.propagate.Finding.TheVariants.{Dead, Marks}
+use Rattle.search.proofs.Stepping.{decided_step, implied_step, reason_clash}
 use Rattle.search.proofs.search.Search.take_step.Goals as goal
 
+pub returns-in-Conflict : goal.returns-in-Conflict
+returns-in-Conflict g c = λ ps S n.
+    let B = g.B.RuleBank.meaning c.args.b.now in
+    let s = c.args.self.now in
+    let r = c.in-Conflict.source in
+    let dead = rw c.in-Conflict.is at n in
+    c.backjump.ensures B ps (sym c.width.ensures) S (dead_any B (store_of s.learnt) (values_from B.width 0 (trail_of s.trail.entries)) (source_of r) dead)
+    (reason_clash B ps s s S (g.B.RuleBank.duties c.args.b.now) (g.B.RuleBank.reading c.args.b.now) (g.B.RuleBank.local c.args.b.now) r c.reason-clash.result Dead (c.reason-clash.ensures tt dead) refl)
+
 pub returns-in-Implication : goal.returns-in-Implication
-returns-in-Implication c = λ B ps L e S n.
+returns-in-Implication g c = λ ps S n.
+    let B = g.B.RuleBank.meaning c.args.b.now in
+    let L = g.B.RuleBank.duties c.args.b.now in
     let s = c.args.self.now in
     let m = c.in-Implication.mark in
-    let r = c.in-Implication.source in
-    let x = c.imply-in-Implication in
+    let x = c.imply in
     let k = rw c.in-Implication.is at n in
-    implied_step B L ps s _ S m.option m.value r k (omega (arith, k.within, L.narrow)) x.ensures.table x.ensures.depth refl
+    implied_step B ps s _ S L (g.B.RuleBank.reading c.args.b.now) (g.B.RuleBank.local c.args.b.now) c.in-Implication.source c.reason-support.result (Marks m) (c.reason-support.ensures k.within k.marks)
+    m refl k (omega (arith, k.within, L.narrow)) x.ensures.table x.ensures.depth refl
 
 pub returns-in-Decision : goal.returns-in-Decision
-returns-in-Decision c = λ B ps L e S n.
+returns-in-Decision g c = λ ps S n.
+    let B = g.B.RuleBank.meaning c.args.b.now in
+    let L = g.B.RuleBank.duties c.args.b.now in
     let s = c.args.self.now in
     let o = c.in-Decision.option in
     let k = rw c.in-Decision.is at n in
-    decided_step B L ps s _ S o k (omega (arith, k.lowest.within, L.narrow)) c.decide.ensures.table c.decide.ensures.depth refl
-
-pub returns-in_default : goal.returns-in_default
-returns-in_default c = λ B ps L e S n.
-    let s = c.args.self.now in
-    hopeless B ps s (record {}) S (rw c.in-Conflict.is at n) (rw (← e) at c.in_default.ensures)
-
-pub returns-in-Some : goal.returns-in-Some
-returns-in-Some c = λ B ps L e S n.
-    let s = c.args.self.now in
-    let t = s.trail in
-    let o = c.in-Some.option in
-    let last = rw (← e) at c.in-Some.ensures in
-    let k : c.depth.result - 1 ≡ t.depth - 1 = ap (λ d. d - 1) c.depth.ensures in
-    flipped_step B L ps s _ S o c.cut.new.self.entries (rw c.in-Conflict.is at n) last
-    (c.cut.ensures.table ∙ ap (λ d. map (kept_row d) t.entries) k) (omega (arith, last.within, L.narrow)) (c.imply.ensures.table ∙ ap (λ d. set c.cut.new.self.entries o (rule_row true d (FromLearnt 0))) (c.cut.ensures.depth ∙ k))
-    (c.imply.ensures.depth ∙ c.cut.ensures.depth ∙ k)
-    (c.push.ensures ∙ ap (λ z. take 192 (z ∷ store_of s.learnt)) (c.analyze.ensures ∙ ap (λ w. denial w (trail_of t.entries)) (sym e)))
+    decided_step B ps s _ S L o k (omega (arith, k.lowest.within, L.narrow)) c.decide.ensures.table c.decide.ensures.depth refl

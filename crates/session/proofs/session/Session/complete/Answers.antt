@@ -8,13 +8,17 @@ use Rattle.trail.specs.View.{trail_of}
 use Rattle.search.specs.Standing.{point_of, end_by}
 use Rattle.search.proofs.Stands.{search_begun}
 use Rattle.session.specs.View.{state_of}
-use Rattle.session.proofs.Completed.{open_same, completion, begun_ok}
+use Rattle.session.proofs.Completed.{open_same, completion, begun_ok, begun_goes}
 use Rattle.session.proofs.session.Session.complete.Goals as goal
 
 pub invariant_of-self : goal.invariant_of-self
 invariant_of-self g c =
     let s = c.args.self.now in
-    record { stands = begun_ok (g.B.RuleBank.meaning s.bank) s.picks s.search c.begin.new.self s.searching c.begin.ensures.begun s.stands }
+    let B = g.B.RuleBank.meaning s.bank in
+    record {
+      stands = begun_ok B s.picks s.search c.begin.new.self s.searching c.begin.ensures.begun s.stands;
+      goes_on = begun_goes B s.picks s.search c.begin.new.self s.searching c.begin.ensures.begun s.stands;
+    }
 
 pub returns : goal.returns
 returns g c =

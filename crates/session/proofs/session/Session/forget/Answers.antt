@@ -8,4 +8,5 @@ pub invariant_of-self : goal.invariant_of-self
 invariant_of-self g c = record {
   stands = kept_by (g.B.RuleBank.meaning c.args.self.now.bank) (state_of c.args.self.now) _ forget done c.args.self.now.stands
       (record { reply = refl; new_picks = refl; new_store = c.clear.ensures; searching = refl });
+  goes_on = ∣ (λ e. cc) ∣₁;
 }

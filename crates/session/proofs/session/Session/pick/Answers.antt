@@ -10,7 +10,7 @@ pub invariant_of-self : goal.invariant_of-self
 invariant_of-self g c =
     let s = c.args.self.now in
     let B = g.B.RuleBank.meaning s.bank in
-    record { stands = kept_by B (state_of s) _ (pick c.args.option c.args.value) done s.stands (pick_made B s.picks s.search s.searching c.args.option (omega (arith, c.width.ensures)) c.args.value (omega arith) (sym c.if-is_some.ensures)) }
+    record { stands = kept_by B (state_of s) _ (pick c.args.option c.args.value) done s.stands (pick_made B s.picks s.search s.searching c.args.option (omega (arith, c.width.ensures)) c.args.value (omega arith) (sym c.if-is_some.ensures)); goes_on = ∣ (λ e. cc) ∣₁ }
 
 pub returns-clause-does : goal.returns-clause-does
 returns-clause-does g c =

@@ -13,7 +13,7 @@ invariant_of-self g c =
     let s = c.args.self.now in
     let B = g.B.RuleBank.meaning s.bank in
     let S = standing_begin B (map value_number c.args.picks) (record s.search { trail = c.begin.new.self }) c.begin.ensures.begun (closed_ok B (state_of s) s.stands).learnt in
-    record { stands = ∣ learnt_ok B (state_of s) _ s.stands refl refl (c.run.ensures.learns (map value_number c.args.picks) S) ∣₁ }
+    record { stands = ∣ learnt_ok B (state_of s) _ s.stands refl refl (c.run.ensures.learns (map value_number c.args.picks) S) ∣₁; goes_on = ∣ (λ e. cc) ∣₁ }
 
 pub returns-clause-searches : goal.returns-clause-searches
 returns-clause-searches g c =

@@ -24,6 +24,7 @@ impl<'b, B: RuleBank> RuleBank for &'b B {
         (**self).reads(rule)
     }
 
+    #[inline(always)]
     fn mark(&self, rule: usize, values: &[u8], marks: &mut [u8]) -> Result<Answer, Refusal> {
         (**self).mark(rule, values, marks)
     }

@@ -8,7 +8,7 @@ pub mod literal;
 mod mark;
 pub mod opening;
 mod rules;
-mod scan;
+pub mod scan;
 pub mod set_clause;
 pub mod table;
 pub mod value_sets;

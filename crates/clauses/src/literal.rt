@@ -4,7 +4,7 @@ ghost use Rattle.clauses.specs.Clause.{wants};
 
 use option_set::OfOption;
 
-// The number is 2 × option + wanted value: one byte and not two fields, since a quote has 40,960 places for literals in its fixed memory.
+// The number is 2 × option + wanted value: one byte and not two fields, since a table has 16,384 places for literals in its fixed memory.
 #[derive(Clone, Copy, PartialEq, Eq, Debug, Default, Drop)]
 pub struct Literal {
     number: u8,

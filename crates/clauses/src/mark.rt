@@ -12,6 +12,7 @@ use crate::scan::scan;
 use bank::refusal::Answer;
 
 // Marks one clause. The two places are the options', no more and no less; at dead the marks stay.
+#[inline(always)]
 pub fn mark_clause(literals: &[Literal], values: &[u8], marks: &mut [u8]) -> Answer
     requires inside { within (length values.now) (numbers literals.now) ≡ true }
     requires room { length marks.old ≡ length values.now }

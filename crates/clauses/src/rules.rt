@@ -45,6 +45,7 @@ impl RuleBank for Clauses {
             .map_or(OptionSet::empty(), |clause| options_of(clause.literals()))
     }
 
+    #[inline(always)]
     #[tactic(auto, using(crate::proofs::Tables::length_rules))]
     fn mark(&self, rule: usize, values: &[u8], marks: &mut [u8]) -> Result<Answer, Refusal> {
         let w = self.width;

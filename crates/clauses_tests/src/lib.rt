@@ -3,26 +3,47 @@
 
 #[cfg(test)]
 mod tests {
-    use bank::check::refused_at;
     use bank::refusal::{Answer, Refusal};
     use bank::rule_bank::RuleBank;
-    use bank::table_fault::TableCause;
+    use bank::table_fault::{TableCause, TableFault};
     use clauses::table::Clauses;
 
     #[test]
     fn widths_and_options(rt: HostRuntime) {
         let mut bank = Clauses::empty();
         assert!(rt; bank.width() == 1 && bank.count() == 0);
-        assert!(rt; bank.open(0, &[]) == refused_at(TableCause::BadWidth, Some(0)));
-        assert!(rt; bank.open(129, &[]) == refused_at(TableCause::BadWidth, Some(0)));
         assert!(rt;
-            bank.open(128, &[&[255], &[256]]) == refused_at(TableCause::OptionTooLarge, Some(1))
+            bank.open(0, &[])
+                == Err(TableFault {
+                    cause: TableCause::BadWidth,
+                    item: 0
+                })
+        );
+        assert!(rt;
+            bank.open(129, &[])
+                == Err(TableFault {
+                    cause: TableCause::BadWidth,
+                    item: 0
+                })
+        );
+        assert!(rt;
+            bank.open(128, &[&[255], &[256]])
+                == Err(TableFault {
+                    cause: TableCause::OptionTooLarge,
+                    item: 1
+                })
         );
         assert!(rt; bank.width() == 1 && bank.count() == 0);
         assert!(rt; bank.open(128, &[&[255]]).is_ok());
         assert!(rt; bank.width() == 128 && bank.count() == 1);
         assert!(rt; bank.open(1, &[&[1]]).is_ok());
-        assert!(rt; bank.add(&[2]) == refused_at(TableCause::OptionTooLarge, Some(1)));
+        assert!(rt;
+            bank.add(&[2])
+                == Err(TableFault {
+                    cause: TableCause::OptionTooLarge,
+                    item: 1
+                })
+        );
         assert!(rt; bank.add(&[0]).is_ok());
         assert!(rt; bank.width() == 1 && bank.count() == 2);
     }
@@ -33,13 +54,43 @@ mod tests {
         let one: &[u32] = &[1];
         let longest: &[u32] = &[1; 32];
         let longer: &[u32] = &[1; 33];
-        assert!(rt; bank.open(1, &[one; 513]) == refused_at(TableCause::TooMany, Some(512)));
-        assert!(rt; bank.open(1, &[&[2], longer]) == refused_at(TableCause::TooMany, Some(1)));
+        assert!(rt;
+            bank.open(1, &[one; 513])
+                == Err(TableFault {
+                    cause: TableCause::TooMany,
+                    item: 512
+                })
+        );
+        assert!(rt;
+            bank.open(1, &[&[2], longer])
+                == Err(TableFault {
+                    cause: TableCause::TooMany,
+                    item: 1
+                })
+        );
         assert!(rt; bank.open(1, &[longest]).is_ok());
-        assert!(rt; bank.add(longer) == refused_at(TableCause::TooMany, Some(1)));
+        assert!(rt;
+            bank.add(longer)
+                == Err(TableFault {
+                    cause: TableCause::TooMany,
+                    item: 1
+                })
+        );
         assert!(rt; bank.open(1, &[one; 512]).is_ok());
-        assert!(rt; bank.room_for(0) == refused_at(TableCause::TooMany, Some(512)));
-        assert!(rt; bank.add(one) == refused_at(TableCause::TooMany, Some(512)));
+        assert!(rt;
+            bank.room_for(0)
+                == Err(TableFault {
+                    cause: TableCause::TooMany,
+                    item: 512
+                })
+        );
+        assert!(rt;
+            bank.add(one)
+                == Err(TableFault {
+                    cause: TableCause::TooMany,
+                    item: 512
+                })
+        );
         assert!(rt; bank.count() == 512);
     }
 

@@ -1,7 +1,6 @@
 // Filling a bank row by row and root by root.
 use crate::helpers::row;
-use bank::check::refused_at;
-use bank::table_fault::TableCause;
+use bank::table_fault::{TableCause, TableFault};
 use diagrams::table::Diagrams;
 use std::test::Fail;
 
@@ -30,12 +29,36 @@ fn refuses_a_row_by_its_first_cause(rt: HostRuntime) -> Result<(), Fail> {
     let mut memory = [row(9, 9, 9); 2];
     let mut bank = Diagrams::empty(&mut memory);
     bank.open(3, &[row(1, 0, 1)], &[])?;
-    assert!(rt; bank.add_row(row(3, 3, 0)) == refused_at(TableCause::OptionTooLarge, Some(1)));
-    assert!(rt; bank.add_row(row(1, 2, 3)) == refused_at(TableCause::ArrowNotDown, Some(1)));
-    assert!(rt; bank.add_row(row(1, 0, 2)) == refused_at(TableCause::ChildNotLater, Some(1)));
+    assert!(rt;
+        bank.add_row(row(3, 3, 0))
+            == Err(TableFault {
+                cause: TableCause::OptionTooLarge,
+                item: 1
+            })
+    );
+    assert!(rt;
+        bank.add_row(row(1, 2, 3))
+            == Err(TableFault {
+                cause: TableCause::ArrowNotDown,
+                item: 1
+            })
+    );
+    assert!(rt;
+        bank.add_row(row(1, 0, 2))
+            == Err(TableFault {
+                cause: TableCause::ChildNotLater,
+                item: 1
+            })
+    );
     assert!(rt; bank.used == 1);
     bank.add_row(row(0, 0, 2))?;
-    assert!(rt; bank.add_row(row(3, 9, 9)) == refused_at(TableCause::TooMany, Some(2)));
+    assert!(rt;
+        bank.add_row(row(3, 9, 9))
+            == Err(TableFault {
+                cause: TableCause::TooMany,
+                item: 2
+            })
+    );
     assert!(rt; bank.used == 2);
     Ok(())
 }
@@ -47,7 +70,13 @@ fn adds_rows_up_to_2048(rt: HostRuntime) -> Result<(), Fail> {
     for _ in 0..2048 {
         bank.add_row(row(0, 1, 0))?;
     }
-    assert!(rt; bank.add_row(row(0, 0, 1)) == refused_at(TableCause::TooMany, Some(2048)));
+    assert!(rt;
+        bank.add_row(row(0, 0, 1))
+            == Err(TableFault {
+                cause: TableCause::TooMany,
+                item: 2048
+            })
+    );
     bank.add_root(2049)?;
     assert!(rt; bank.used == 2048 && bank.roots.len() == 1 && bank.roots[0].reads.contains(0));
     Ok(())
@@ -60,11 +89,23 @@ fn refuses_a_root_by_its_first_cause(rt: HostRuntime) -> Result<(), Fail> {
     bank.open(1, &[row(0, 0, 1)], &[])?;
     bank.add_root(0)?;
     bank.add_root(1)?;
-    assert!(rt; bank.add_root(3) == refused_at(TableCause::RootUnknown, Some(2)));
+    assert!(rt;
+        bank.add_root(3)
+            == Err(TableFault {
+                cause: TableCause::RootUnknown,
+                item: 2
+            })
+    );
     for _ in 2..128 {
         bank.add_root(2)?;
     }
-    assert!(rt; bank.add_root(3) == refused_at(TableCause::TooMany, Some(128)));
+    assert!(rt;
+        bank.add_root(3)
+            == Err(TableFault {
+                cause: TableCause::TooMany,
+                item: 128
+            })
+    );
     assert!(rt;
         bank.roots.len() == 128
             && bank.roots[1].reads.is_empty()

@@ -3,8 +3,7 @@ ghost use Rattle.std.specs.Prelude.{◌≡◌, true};
 ghost use Rattle.diagrams.specs.Filled.{front_replaced};
 
 use crate::helpers::{four_rows, row, untouched};
-use bank::check::refused_at;
-use bank::table_fault::TableCause;
+use bank::table_fault::{TableCause, TableFault};
 use diagrams::row::Row;
 use diagrams::table::Diagrams;
 use std::test::Fail;
@@ -65,7 +64,11 @@ fn refuses_2049_rows(rt: HostRuntime) {
     let mut memory = [row(9, 9, 9); 2050];
     let mut bank = Diagrams::empty(&mut memory);
     assert!(rt;
-        bank.open(1, &[row(0, 0, 1); 2049], &[]) == refused_at(TableCause::TooMany, Some(2048))
+        bank.open(1, &[row(0, 0, 1); 2049], &[])
+            == Err(TableFault {
+                cause: TableCause::TooMany,
+                item: 2048
+            })
     );
     assert!(rt; untouched(&bank));
 }
@@ -74,7 +77,13 @@ fn refuses_2049_rows(rt: HostRuntime) {
 fn refuses_more_rows_than_lent(rt: HostRuntime) {
     let mut memory = [row(9, 9, 9); 3];
     let mut bank = Diagrams::empty(&mut memory);
-    assert!(rt; bank.open(3, &four_rows(), &[7; 129]) == refused_at(TableCause::TooMany, Some(3)));
+    assert!(rt;
+        bank.open(3, &four_rows(), &[7; 129])
+            == Err(TableFault {
+                cause: TableCause::TooMany,
+                item: 3
+            })
+    );
     assert!(rt; untouched(&bank));
 }
 
@@ -83,7 +92,11 @@ fn takes_128_roots_and_refuses_129(rt: HostRuntime) -> Result<(), Fail> {
     let mut memory = [row(9, 9, 9); 4];
     let mut bank = Diagrams::empty(&mut memory);
     assert!(rt;
-        bank.open(3, &four_rows(), &[5; 129]) == refused_at(TableCause::TooMany, Some(128))
+        bank.open(3, &four_rows(), &[5; 129])
+            == Err(TableFault {
+                cause: TableCause::TooMany,
+                item: 128
+            })
     );
     assert!(rt; untouched(&bank));
     bank.open(3, &four_rows(), &[5; 128])?;
@@ -96,9 +109,19 @@ fn refuses_a_width_of_0_or_129(rt: HostRuntime) -> Result<(), Fail> {
     let mut memory = [row(9, 9, 9); 1];
     let mut bank = Diagrams::empty(&mut memory);
     assert!(rt;
-        bank.open(0, &[row(5, 7, 7); 9], &[9]) == refused_at(TableCause::BadWidth, Some(0))
+        bank.open(0, &[row(5, 7, 7); 9], &[9])
+            == Err(TableFault {
+                cause: TableCause::BadWidth,
+                item: 0
+            })
     );
-    assert!(rt; bank.open(129, &[], &[]) == refused_at(TableCause::BadWidth, Some(0)));
+    assert!(rt;
+        bank.open(129, &[], &[])
+            == Err(TableFault {
+                cause: TableCause::BadWidth,
+                item: 0
+            })
+    );
     assert!(rt; untouched(&bank));
     bank.open(128, &[row(127, 0, 1)], &[2])?;
     assert!(rt; bank.width == 128 && bank.roots[0].reads.contains(127));
@@ -112,21 +135,34 @@ fn names_the_first_row_of_the_first_cause(rt: HostRuntime) {
     // an option too large counts before an arrow, an arrow before a child, a child before a root
     assert!(rt;
         bank.open(3, &[row(1, 0, 3), row(3, 0, 1), row(3, 0, 1)], &[9])
-            == refused_at(TableCause::OptionTooLarge, Some(1))
+            == Err(TableFault {
+                cause: TableCause::OptionTooLarge,
+                item: 1
+            })
     );
     assert!(rt;
         bank.open(
             3,
             &[row(2, 0, 1), row(2, 2, 1), row(0, 4, 0), row(0, 0, 9)],
             &[9]
-        ) == refused_at(TableCause::ArrowNotDown, Some(2))
+        ) == Err(TableFault {
+            cause: TableCause::ArrowNotDown,
+            item: 2
+        })
     );
     assert!(rt;
         bank.open(3, &[row(1, 0, 1), row(1, 0, 2), row(2, 2, 0)], &[9])
-            == refused_at(TableCause::ChildNotLater, Some(1))
+            == Err(TableFault {
+                cause: TableCause::ChildNotLater,
+                item: 1
+            })
     );
     assert!(rt;
-        bank.open(3, &four_rows(), &[5, 6, 9]) == refused_at(TableCause::RootUnknown, Some(1))
+        bank.open(3, &four_rows(), &[5, 6, 9])
+            == Err(TableFault {
+                cause: TableCause::RootUnknown,
+                item: 1
+            })
     );
     assert!(rt; untouched(&bank));
 }
@@ -137,7 +173,11 @@ fn a_refusal_keeps_what_was_open(rt: HostRuntime) -> Result<(), Fail> {
     let mut bank = Diagrams::empty(&mut memory);
     bank.open(3, &four_rows(), &[5])?;
     assert!(rt;
-        bank.open(2, &[row(0, 2, 0)], &[]) == refused_at(TableCause::ArrowNotDown, Some(0))
+        bank.open(2, &[row(0, 2, 0)], &[])
+            == Err(TableFault {
+                cause: TableCause::ArrowNotDown,
+                item: 0
+            })
     );
     assert!(rt; bank.width == 3 && bank.used == 4 && bank.roots.len() == 1);
     let first = bank.rows[0];

@@ -1,12 +1,12 @@
 -- The groups of a table.
-use Rattle.std.specs.Prelude.{ℕ, Bool, List, map}
+use Rattle.std.specs.Prelude.{ℕ, Bool, List, map, take}
 use Rattle.std.specs.List.{list_all}
 use Rattle.groups.specs.declared.group.Group.{Group}
 use Rattle.groups.specs.Group.{Rule, all_below}
 
 -- the group that is stored
 abbrev pub rule_of : Group → Rule
-rule_of g = record { lo = g.lo; hi = g.hi; options = g.options.items }
+rule_of g = record { lo = g.lo; hi = g.hi; options = take g.len g.options }
 
 -- the groups of the table
 abbrev pub groups_of : List Group → List Rule

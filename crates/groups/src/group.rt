@@ -1,16 +1,24 @@
 // One group as a table stores it.
-ghost use Rattle.std.specs.Prelude.{◌≡◌, ◌≤◌, true};
-ghost use Rattle.arrayvec.specs.ArrayVec.{array_vec_len};
+ghost use Rattle.std.specs.Prelude.{◌≡◌, ◌≤◌, true, take};
 ghost use Rattle.groups.specs.Group.{distinct};
 
-use arrayvec::ArrayVec;
-
-// At least `lo` and at most `hi` of the options are to be taken; no option stands twice.
-#[derive(Drop)]
+// At least `lo` and at most `hi` of the first `len` options are to be taken; no option stands twice.
+// An array and a length, and no `ArrayVec`: a group is `Copy`, and an `ArrayVec` is not.
+#[derive(Clone, Copy, Drop)]
 pub struct Group {
     pub(crate) lo: u8,
     pub(crate) hi: u8,
-    pub(crate) options: ArrayVec<u8, 32>,
-    ghost bounds: { (lo ≤ hi) × (hi ≤ array_vec_len options) × (array_vec_len options ≤ 32) },
-    ghost different: { distinct options.items ≡ true },
+    pub(crate) len: u8,
+    pub(crate) options: [u8; 32],
+    ghost bounds: { (lo ≤ hi) × (hi ≤ len) × (len ≤ 32) },
+    ghost different: { distinct (take len options) ≡ true },
+}
+
+impl Group {
+    // The options of the group.
+    pub(crate) fn options(&self) -> &[u8]
+        ensures { result.now ≡ take self.now.len self.now.options }
+    {
+        &self.options[..self.len as usize]
+    }
 }

@@ -40,21 +40,22 @@ pub(crate) fn settle(options: &[u8], value: u8, marks: &mut [u8])
 impl Group {
     // The options as a set.
     pub(crate) fn reads(&self) -> OptionSet
-        ensures { (o : ℕ) → o < 128 → member result.members o ≡ among self.now.options.items o }
+        ensures { (o : ℕ) → o < 128 → member result.members o ≡ among (rule_of self.now).options o }
     {
-        OptionSet::of(&self.options)
+        OptionSet::of(self.options())
     }
 
     // Marks the group. `values` and `marks` are the options' places, no more and no less.
+    #[inline(always)]
     #[tactic(auto, using(crate::proofs::Marked::marked))]
     pub(crate) fn mark(&self, values: &[u8], marks: &mut [u8]) -> Answer
-        requires inside { all_below (length values.now) self.now.options.items ≡ true }
+        requires inside { all_below (length values.now) (rule_of self.now).options ≡ true }
         requires room { length marks.old ≡ length values.now }
         requires small { up_to 2 values.now ≡ true }
         ensures value { result ≡ heard (answer_of (length values.now) (rule_meets (rule_of self.now)) values.now) }
         ensures after { marks.new ≡ noted (answer_of (length values.now) (rule_meets (rule_of self.now)) values.now) marks.old }
     {
-        let options = self.options.as_slice();
+        let options = self.options();
         let lo = self.lo as usize;
         let hi = self.hi as usize;
         let taken = holding(options, values, 1);

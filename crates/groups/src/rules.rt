@@ -32,6 +32,7 @@ impl RuleBank for Groups {
             .map_or(OptionSet::empty(), |group| group.reads())
     }
 
+    #[inline(always)]
     fn mark(&self, rule: usize, values: &[u8], marks: &mut [u8]) -> Result<Answer, Refusal> {
         let w = self.width;
         let count = self.groups.len();

@@ -19,7 +19,8 @@ impl Default for Group {
         Group {
             lo: 0,
             hi: 0,
-            options: ArrayVec::new(),
+            len: 0,
+            options: [0; 32],
         }
     }
 }
@@ -30,13 +31,14 @@ impl Group {
         requires { Fair (told text.now) }
         ensures { rule_of result ≡ told text.now }
     {
-        let mut options = ArrayVec::new();
-        for option in text.options {
-            options.push(*option as u8);
+        let mut options = [0; 32];
+        for (i, option) in text.options.iter().enumerate() {
+            options[i] = *option as u8;
         }
         Group {
             lo: text.lo as u8,
             hi: text.hi as u8,
+            len: text.options.len() as u8,
             options,
         }
     }

@@ -3,10 +3,9 @@
 
 #[cfg(test)]
 mod tests {
-    use bank::check::refused_at;
     use bank::refusal::{Answer, Refusal};
     use bank::rule_bank::RuleBank;
-    use bank::table_fault::TableCause;
+    use bank::table_fault::{TableCause, TableFault};
     use groups::table::Groups;
     use groups::text::GroupText;
 
@@ -18,17 +17,36 @@ mod tests {
     fn widths_and_options(rt: HostRuntime) {
         let mut bank = Groups::empty();
         assert!(rt; bank.width() == 1 && bank.count() == 0);
-        assert!(rt; bank.open(0, &[]) == refused_at(TableCause::BadWidth, Some(0)));
-        assert!(rt; bank.open(129, &[]) == refused_at(TableCause::BadWidth, Some(0)));
+        assert!(rt;
+            bank.open(0, &[])
+                == Err(TableFault {
+                    cause: TableCause::BadWidth,
+                    item: 0
+                })
+        );
+        assert!(rt;
+            bank.open(129, &[])
+                == Err(TableFault {
+                    cause: TableCause::BadWidth,
+                    item: 0
+                })
+        );
         assert!(rt;
             bank.open(128, &[group(0, 1, &[127]), group(0, 1, &[128])])
-                == refused_at(TableCause::OptionTooLarge, Some(1))
+                == Err(TableFault {
+                    cause: TableCause::OptionTooLarge,
+                    item: 1
+                })
         );
         assert!(rt; bank.width() == 1 && bank.count() == 0);
         assert!(rt; bank.open(128, &[group(0, 1, &[127])]).is_ok());
         assert!(rt; bank.width() == 128 && bank.count() == 1);
         assert!(rt;
-            bank.add(&group(0, 1, &[128])) == refused_at(TableCause::OptionTooLarge, Some(1))
+            bank.add(&group(0, 1, &[128]))
+                == Err(TableFault {
+                    cause: TableCause::OptionTooLarge,
+                    item: 1
+                })
         );
         assert!(rt; bank.add(&group(0, 2, &[0, 127])).is_ok());
         assert!(rt; bank.width() == 128 && bank.count() == 2);
@@ -47,12 +65,30 @@ mod tests {
     fn too_many_groups(rt: HostRuntime) {
         let mut bank = Groups::empty();
         let one = group(0, 1, &[0]);
-        assert!(rt; bank.open(1, &[one; 65]) == refused_at(TableCause::TooMany, Some(64)));
+        assert!(rt;
+            bank.open(1, &[one; 65])
+                == Err(TableFault {
+                    cause: TableCause::TooMany,
+                    item: 64
+                })
+        );
         assert!(rt; bank.count() == 0);
         assert!(rt; bank.open(1, &[one; 64]).is_ok());
         assert!(rt; bank.count() == 64);
-        assert!(rt; bank.room_for(0) == refused_at(TableCause::TooMany, Some(64)));
-        assert!(rt; bank.add(&group(0, 1, &[0])) == refused_at(TableCause::TooMany, Some(64)));
+        assert!(rt;
+            bank.room_for(0)
+                == Err(TableFault {
+                    cause: TableCause::TooMany,
+                    item: 64
+                })
+        );
+        assert!(rt;
+            bank.add(&group(0, 1, &[0]))
+                == Err(TableFault {
+                    cause: TableCause::TooMany,
+                    item: 64
+                })
+        );
         assert!(rt; bank.count() == 64);
     }
 
@@ -66,13 +102,28 @@ mod tests {
         let longer: &[u32] = &[0; 33];
         assert!(rt; bank.open(32, &[group(32, 32, longest)]).is_ok());
         assert!(rt; bank.add(&group(0, 0, longest)).is_ok());
-        assert!(rt; bank.add(&group(0, 1, longer)) == refused_at(TableCause::TooMany, Some(2)));
+        assert!(rt;
+            bank.add(&group(0, 1, longer))
+                == Err(TableFault {
+                    cause: TableCause::TooMany,
+                    item: 2
+                })
+        );
         assert!(rt;
             bank.open(32, &[group(1, 0, &[40]), group(0, 1, longer)])
-                == refused_at(TableCause::TooMany, Some(1))
+                == Err(TableFault {
+                    cause: TableCause::TooMany,
+                    item: 1
+                })
         );
         assert!(rt; bank.room_for(32).is_ok());
-        assert!(rt; bank.room_for(33) == refused_at(TableCause::TooMany, Some(2)));
+        assert!(rt;
+            bank.room_for(33)
+                == Err(TableFault {
+                    cause: TableCause::TooMany,
+                    item: 2
+                })
+        );
     }
 
     #[test]
@@ -80,15 +131,32 @@ mod tests {
         let mut bank = Groups::empty();
         assert!(rt; bank.open(3, &[group(0, 0, &[]), group(1, 1, &[2])]).is_ok());
         assert!(rt;
-            bank.add(&group(2, 1, &[0, 1, 2])) == refused_at(TableCause::GroupBounds, Some(2))
+            bank.add(&group(2, 1, &[0, 1, 2]))
+                == Err(TableFault {
+                    cause: TableCause::GroupBounds,
+                    item: 2
+                })
         );
         assert!(rt;
-            bank.add(&group(0, 3, &[0, 1])) == refused_at(TableCause::GroupBounds, Some(2))
+            bank.add(&group(0, 3, &[0, 1]))
+                == Err(TableFault {
+                    cause: TableCause::GroupBounds,
+                    item: 2
+                })
         );
-        assert!(rt; bank.add(&group(0, 1, &[])) == refused_at(TableCause::GroupBounds, Some(2)));
+        assert!(rt;
+            bank.add(&group(0, 1, &[]))
+                == Err(TableFault {
+                    cause: TableCause::GroupBounds,
+                    item: 2
+                })
+        );
         assert!(rt;
             bank.open(3, &[group(0, 0, &[]), group(0, 4294967295, &[0])])
-                == refused_at(TableCause::GroupBounds, Some(1))
+                == Err(TableFault {
+                    cause: TableCause::GroupBounds,
+                    item: 1
+                })
         );
         assert!(rt; bank.count() == 2);
     }
@@ -98,19 +166,32 @@ mod tests {
         let mut bank = Groups::empty();
         assert!(rt;
             bank.open(3, &[group(0, 1, &[0, 1]), group(0, 1, &[2, 0, 2])])
-                == refused_at(TableCause::OptionTwice, Some(1))
+                == Err(TableFault {
+                    cause: TableCause::OptionTwice,
+                    item: 1
+                })
         );
         assert!(rt;
             bank.open(3, &[group(0, 1, &[0, 0]), group(2, 1, &[1, 2])])
-                == refused_at(TableCause::GroupBounds, Some(1))
+                == Err(TableFault {
+                    cause: TableCause::GroupBounds,
+                    item: 1
+                })
         );
         assert!(rt;
             bank.open(3, &[group(2, 1, &[1, 2]), group(0, 1, &[3])])
-                == refused_at(TableCause::OptionTooLarge, Some(1))
+                == Err(TableFault {
+                    cause: TableCause::OptionTooLarge,
+                    item: 1
+                })
         );
         assert!(rt; bank.open(3, &[]).is_ok());
         assert!(rt;
-            bank.add(&group(0, 1, &[1, 2, 1])) == refused_at(TableCause::OptionTwice, Some(0))
+            bank.add(&group(0, 1, &[1, 2, 1]))
+                == Err(TableFault {
+                    cause: TableCause::OptionTwice,
+                    item: 0
+                })
         );
     }
 

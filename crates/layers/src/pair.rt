@@ -58,6 +58,8 @@ impl<A: RuleBank, B: RuleBank> RuleBank for Pair<A, B> {
     }
 
     // What is refused is decided by the pair's own width, also where the bank that has the rule is narrower.
+    // Inlined, so that the compiler sees that values and marks never overlap: a library for C then needs no `memmove` from outside.
+    #[inline(always)]
     #[tactic(auto, unfolding(layer_theory::specs::Layers::pair_says))]
     fn mark(&self, rule: usize, values: &[u8], marks: &mut [u8]) -> Result<Answer, Refusal> {
         let w = self.width();

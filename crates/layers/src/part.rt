@@ -44,6 +44,7 @@ impl<'b, B: RuleBank> Part<'b, B> {
     }
 
     // Marks a table of `w` options. The caller has tested what `mark` refuses, so the bank cannot refuse its part.
+    #[inline(always)]
     pub fn mark(&self, w: usize, rule: usize, values: &[u8], marks: &mut [u8]) -> Answer
         requires inside { self.now.start + (B.meaning self.now.bank.now).width ≤ w }
         requires long { w ≤ length values.now }

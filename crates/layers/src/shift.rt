@@ -59,6 +59,7 @@ impl<B: RuleBank> RuleBank for Shift<B> {
         Part::at(&self.bank, self.start()).reads(rule)
     }
 
+    #[inline(always)]
     fn mark(&self, rule: usize, values: &[u8], marks: &mut [u8]) -> Result<Answer, Refusal> {
         let w = self.width();
         check_asked(w, self.count(), rule, values, marks.len())?;

@@ -19,7 +19,7 @@ impl Picks {
         self.values = [None; 128];
         for (before, line) in Lines::new(text).enumerate() {
             let result = self.read_pick(line);
-            at_line(result, Text::Picks, before)?;
+            at_line(result, Some(Text::Picks), before)?;
         }
         Ok(())
     }

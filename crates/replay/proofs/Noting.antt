@@ -12,7 +12,7 @@ use Rattle.replay.specs.declared.reply.Reply.TheVariants.{Done}
 use Rattle.search.specs.declared.verdict.Verdict.{Verdict}
 use Rattle.search.specs.declared.verdict.Verdict.TheVariants.{Build as Found, NoBuild, Spent}
 use Rattle.session.specs.Completing.{filled}
-use Rattle.replay.specs.Replies.{call_of, reply_of, PlacedIn}
+use Rattle.replay.specs.Replies.{call_of, reply_of}
 use Rattle.replay.specs.Replayed.{events}
 
 pub events_none : (W : ℕ) (cs : List Call) (rs : List (Result Reply Refusal)) → events W cs rs 0 ≡ []
@@ -32,12 +32,12 @@ pub events_more : (W : ℕ) (cs : List Call) (rs : List (Result Reply Refusal)) 
 unfolding events
 events_more W cs rs i c r h e = rw (add-one, get_or-set_same rs i r (Ok Done) h, events_keep W cs rs i r i (omega arith), e) refl
 
--- what holds of the replies so far, and of one more, holds of all of them
-pub placed_more : (W : ℕ) (rs : List (Result Reply Refusal)) (i : ℕ) (r : Result Reply Refusal) → i < length rs → ((k : ℕ) → k < i → PlacedIn W (get_or rs k (Ok Done))) → PlacedIn W r →
-    (k : ℕ) → k < i + 1 → PlacedIn W (get_or (set rs i r) k (Ok Done))
-placed_more W rs i r l h p k m = elim (cases_eq k i) [
-  | inl e ↦ subst (λ j. PlacedIn W (get_or (set rs i r) j (Ok Done))) (sym e) (subst (PlacedIn W) (sym (get_or-set_same rs i r (Ok Done) l)) p)
-  | inr n ↦ subst (PlacedIn W) (sym (get_or-set_other rs i k r (Ok Done) n)) (h k (omega (arith, n)))
+-- what holds of the replies so far, each at its place, and of one more, holds of all of them
+pub noted_more : (P : ℕ → Result Reply Refusal → Type 0) (rs : List (Result Reply Refusal)) (i : ℕ) (r : Result Reply Refusal) → i < length rs → ((k : ℕ) → k < i → P k (get_or rs k (Ok Done))) → P i r →
+    (k : ℕ) → k < i + 1 → P k (get_or (set rs i r) k (Ok Done))
+noted_more P rs i r l h p k m = elim (cases_eq k i) [
+  | inl e ↦ subst (λ j. P j (get_or (set rs i r) j (Ok Done))) (sym e) (subst (P i) (sym (get_or-set_same rs i r (Ok Done) l)) p)
+  | inr n ↦ subst (P k) (sym (get_or-set_other rs i k r (Ok Done) n)) (h k (omega (arith, n)))
 ]
 
 -- a front of the place with room for a build is filled as the whole of it

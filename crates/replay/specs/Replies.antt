@@ -1,5 +1,5 @@
 -- Calls and replies as the theory has them.
-use Rattle.std.specs.Prelude.{◌≡◌, ℕ, replicate, Ok, Err, Result, IfOk}
+use Rattle.std.specs.Prelude.{◌≡◌, ℕ, Bool, true, false, replicate, Ok, Err, Result, IfOk}
 use Rattle.builds.specs.Builds.{Build}
 use Rattle.bank.specs.declared.refusal.Refusal.{Refusal}
 use Rattle.bank.specs.Numbers.{number_of}
@@ -38,3 +38,30 @@ Placed W (Told f) = Unit {0}
 
 abbrev pub PlacedIn : ℕ → Result Given Refusal → Type 0
 PlacedIn W r = IfOk r (Placed W)
+
+abbrev pub is_done : Given → Bool
+is_done Done = true
+is_done (Completed c place) = false
+is_done (Told f) = false
+
+abbrev pub is_completed : Given → Bool
+is_completed Done = false
+is_completed (Completed c place) = true
+is_completed (Told f) = false
+
+abbrev pub is_told : Given → Bool
+is_told Done = false
+is_told (Completed c place) = false
+is_told (Told f) = true
+
+-- a completion answers a call that completes, what is told of an option one that asks of it, and every other call is done
+abbrev pub suits : Asked → Given → Bool
+suits (Pick o v) r = is_done r
+suits (Release o) r = is_done r
+suits (Complete budget room) r = is_completed r
+suits (Resume budget room) r = is_completed r
+suits (Forced o budget) r = is_told r
+suits Forget r = is_done r
+
+abbrev pub SuitedIn : Asked → Result Given Refusal → Type 0
+SuitedIn c r = IfOk r (λ g. suits c g ≡ true)

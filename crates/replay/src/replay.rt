@@ -4,7 +4,7 @@ ghost use Rattle.search_theory.specs.Calls.{Does};
 ghost use Rattle.search_theory.specs.Law.{AnswersRight, Finishes, SameAnswers};
 ghost use Rattle.session.specs.View.{state_of};
 ghost use Rattle.bank.specs.Asked.{cause_of};
-ghost use Rattle.replay.specs.Replies.{call_of, reply_of, PlacedIn};
+ghost use Rattle.replay.specs.Replies.{call_of, reply_of, PlacedIn, SuitedIn};
 ghost use Rattle.replay.specs.Replayed.{Replayed};
 
 use crate::call::Call;
@@ -17,6 +17,7 @@ use session::session::Session;
 fn perform<B: RuleBank>(session: &mut Session<B>, call: Call) -> Result<Reply, Refusal>
     ensures does { Does (B.meaning session.old.bank) (state_of session.old) (call_of call) (reply_of (B.meaning session.old.bank).width result) (state_of session.new) }
     ensures places { PlacedIn (B.meaning session.old.bank).width result }
+    ensures kind { SuitedIn call result }
     ensures bank { session.new.bank ≡ session.old.bank }
 {
     let mut place = [0; 128];

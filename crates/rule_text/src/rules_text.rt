@@ -34,7 +34,7 @@ impl<'a> Tables<'a> {
         let _ = self.open(1);
         for (before, line) in Lines::new(text).enumerate() {
             let result = self.read_rule(line);
-            at_line(result, Text::Rules, before)?;
+            at_line(result, Some(Text::Rules), before)?;
         }
         self.finished()
     }

@@ -51,6 +51,15 @@ impl<'a> Tables<'a> {
         }
     }
 
+    // The same over the memory of a table that a caller has, whatever stands in it.
+    #[tactic(auto, using(crate::proofs::Lending::lent_front))]
+    pub fn of(diagrams: Diagrams<'a>) -> Tables<'a>
+        ensures opened { catalogue_of result ≡ no_catalogue }
+        ensures lent { Lent diagrams.entry result.diagrams }
+    {
+        Tables::empty(diagrams.rows)
+    }
+
     // Opens all three over `width` options, before the first line. At a refusal they stay as they stood.
     #[tactic(auto, using(crate::proofs::Openings::no_diagrams, crate::proofs::Openings::no_clauses, crate::proofs::Openings::no_groups, crate::proofs::Lending::lent_kept, crate::proofs::Lending::lent_front))]
     pub(crate) fn open(&mut self, width: usize) -> Result<(), TableFault>

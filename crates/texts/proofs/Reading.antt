@@ -50,10 +50,10 @@ pub record Handed {X : Type 0} (t : Text) (n : ℕ) (r : Result (Unit {0}) Cause
   pub fault : fault_of f ≡ at_line (text_number t) (Some n) (layered cause)
 
 module _ {X : Type 0} (t : Text) (n : ℕ) (r : Result (Unit {0}) Cause) (x : X) (s : Result X Layered) (said : line_said r x ≡ s) where
-  pub said_read : Ok tt ≡ placed_at t n r → Ok x ≡ s
+  pub said_read : Ok tt ≡ placed_at (Some t) n r → Ok x ≡ s
   said_read e = ap (λ o. line_said o x) (sym (placed_ok t n r tt e)) ∙ said
 
-  pub said_fault : (f : TextFault) → Err f ≡ placed_at t n r → Handed t n r s f
+  pub said_fault : (f : TextFault) → Err f ≡ placed_at (Some t) n r → Handed t n r s f
   said_fault f e =
       let p = placed_err t n r f e in
       record { cause = p.0; was = p.1; stops = ap (λ o. line_said o x) (sym p.1) ∙ said; fault = ap fault_of p.2 }

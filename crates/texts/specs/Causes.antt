@@ -45,9 +45,9 @@ abbrev pub fault_of : TextFault → Fault
 fault_of f = at_line (text_told f.text) f.line (layered f.cause)
 
 -- a fault with the line at which it came
-abbrev pub placed_at : {X E : Type 0} → Text → ℕ → Result X E → Result X (AtLine E)
+abbrev pub placed_at : {X E : Type 0} → Option Text → ℕ → Result X E → Result X (AtLine E)
 placed_at text line (Ok x) = Ok x
-placed_at text line (Err e) = Err (record { text = Some text; line = Some line; cause = e })
+placed_at text line (Err e) = Err (record { text = text; line = Some line; cause = e })
 
 -- what a call that fills a value says of it: the value, or the fault of its line or of its text
 abbrev pub line_said : {X : Type 0} → Result (Unit {0}) Cause → X → Result X Layered

@@ -158,12 +158,12 @@ impl From<Refusal> for Cause {
 }
 
 // What a line gave after so many others, a fault with the line's number. No text has so many lines that the number would not fit.
-pub fn at_line<T, E>(res: Result<T, E>, text: Text, before: usize) -> Result<T, AtLine<E>>
+pub fn at_line<T, E>(res: Result<T, E>, text: Option<Text>, before: usize) -> Result<T, AtLine<E>>
     ensures value { before < 18446744073709551615 → result ≡ placed_at text (before + 1) res }
     ensures most { 18446744073709551615 ≤ before → result ≡ placed_at text 18446744073709551615 res }
 {
     res.map_err(|cause| AtLine {
-        text: Some(text),
+        text,
         line: Some(before.saturating_add(1)),
         cause,
     })

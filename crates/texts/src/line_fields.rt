@@ -15,7 +15,8 @@ use lines::line::Line;
 // The most fields in a row.
 const MOST_FIELDS: usize = 32;
 
-// The first `count` fields of the bytes.
+// The first `count` fields of the bytes. Inlined, so that the list is made where its reader wants it and not copied there.
+#[inline(always)]
 fn read_fields(bytes: &[u8], count: usize) -> Result<ArrayVec<u32, 32>, LineFault>
     requires few { count ≤ 32 }
     requires long { 6 * count ≤ length bytes.now }

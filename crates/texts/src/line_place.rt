@@ -12,10 +12,12 @@ pub fn line_place(text: &[u8], number: usize) -> Option<LinePlace>
     ensures line { line_there text.now result ≡ line_numbered number (lines_of text.now) }
     ensures within { IfSome result (λ p. (p.start ≤ p.end) × (p.end ≤ length text.now)) }
 {
+    // lines are counted from 1: no text has a line 0, which is seen without reading it
+    let wanted = number.checked_sub(1)?;
     let mut start = 0;
     for (before, line) in Lines::new(text).enumerate() {
         let end = start + line.bytes.len();
-        if before + 1 == number {
+        if before == wanted {
             return Some(LinePlace {
                 start,
                 end,

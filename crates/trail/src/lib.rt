@@ -6,4 +6,5 @@ mod decide;
 pub mod entry;
 mod imply;
 pub mod learnt;
+mod numbers;
 pub mod trail;

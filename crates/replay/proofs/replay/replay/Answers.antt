@@ -7,9 +7,9 @@ use Rattle.search_theory.proofs.Kept.{run_none, run_more}
 use Rattle.search_theory.proofs.Law.{answers_right, finishes, same_answers}
 use Rattle.session.specs.View.{state_of}
 use Rattle.replay.specs.declared.call.Call.TheVariants.{Forget, Pick}
-use Rattle.replay.specs.Replies.{call_of}
+use Rattle.replay.specs.Replies.{call_of, PlacedIn, SuitedIn}
 use Rattle.replay.specs.Replayed.{events}
-use Rattle.replay.proofs.Noting.{events_none, events_more, placed_more}
+use Rattle.replay.proofs.Noting.{events_none, events_more, noted_more}
 use Rattle.replay.proofs.replay.replay.Goals as goal
 
 pub loop-i-init : goal.loop-i-init
@@ -17,7 +17,7 @@ loop-i-init g c =
     let s = c.new-session.result in
     let B = g.B.RuleBank.meaning s.bank in
     let n : New B (state_of s) = rw c.new-session.ensures.bank c.new-session.ensures.new in
-    (refl, (state_of s, n, rw events_none (run_none B (state_of s))), refl, λ k h. absurd (omega arith))
+    (refl, (state_of s, n, rw events_none (run_none B (state_of s))), refl, λ k h. absurd (omega arith), λ k h. absurd (omega arith))
 
 pub loop-i-preserved : goal.loop-i-preserved
 loop-i-preserved g c =
@@ -38,7 +38,8 @@ loop-i-preserved g c =
             (run_more B v.1.0 (state_of s) (state_of s') (events B.width cs rs i) (call_of (get_or cs i (Pick 0 0))) _ v.1.2 c.perform.ensures.does),
       ),
       drop-set-lt (length cs) rs i _ c.loop-i-test.true ∙ v.2,
-      placed_more B.width rs i _ (omega arith) v.3 c.perform.ensures.places,
+      noted_more (λ k r. PlacedIn B.width r) rs i _ (omega arith) v.3 c.perform.ensures.places,
+      noted_more (λ k r. SuitedIn (get_or cs k Forget) r) rs i _ (omega arith) v.4 (rw asked c.perform.ensures.kind),
     )
 
 pub returns-clause-run : goal.returns-clause-run
@@ -46,7 +47,7 @@ returns-clause-run g c =
     let v = c.loop-i.invariant in
     let n : c.loop-i.i ≡ length c.args.calls.now = omega arith in
     let t = rw (v.0 ∙ c.new-session.ensures.bank, n) at v.1 in
-    record { from = t.0; to = state_of c.loop-i.session; new = t.1; run = t.2; places = λ i l. rw (v.0 ∙ c.new-session.ensures.bank) at (v.3 i (omega arith)) }
+    record { from = t.0; to = state_of c.loop-i.session; new = t.1; run = t.2; places = λ i l. rw (v.0 ∙ c.new-session.ensures.bank) at (v.3 i (omega arith)); kinds = λ i l. v.4 i (omega arith) }
 
 law : (B : Bank) → Duties B → AnswersRight B × Finishes B × SameAnswers B
 law B L = (answers_right B L, finishes B L, same_answers B L)

@@ -1,5 +1,5 @@
-use Rattle.std.proofs.Common.{◌≡◌, take}
+use Rattle.std.proofs.Common.{◌≡◌, length, take}
 use Rattle.groups.proofs.group.Group.of.Given as goal
 
-abbrev pub invariant-loop-option : goal.invariant-loop-option
-invariant-loop-option l = l.options.items ≡ take l.option-index l.text.options.now
+abbrev pub invariant-loop-i : goal.invariant-loop-i
+invariant-loop-i l = (length l.options ≡ 32) × (take l.i l.options ≡ take l.i l.text.options.now)

@@ -20,7 +20,7 @@ use Rattle.layer_theory.specs.Layers.{pair_bank, shift_bank}
 use Rattle.arrayvec.specs.ArrayVec.{array_vec_len}
 use Rattle.rule_text.specs.declared.tables.Tables.{Tables}
 use Rattle.rule_text.specs.Catalogue.{Catalogue, catalogue_bank}
-use Rattle.rule_text.specs.View.{rows_in, roots_in, catalogue_of}
+use Rattle.rule_text.specs.View.{Held, catalogue_of}
 use Rattle.order_theory.proofs.Alike.{Alike, same_alike, shift_alike, pair_alike}
 use Rattle.order_theory.proofs.Walking.{walk_front}
 
@@ -32,16 +32,6 @@ three_bank first d c g =
 
 abbrev pub tables_bank : Tables → Bank
 tables_bank t = three_bank t.first t.diagrams t.clauses t.groups
-
--- the three tables hold what the catalogue has
-pub record Held (d : Diagrams) (c : Clauses) (g : Groups) (k : Catalogue) : Type 0 where
-  pub size : d.width ≡ k.size
-  pub rows : rows_in d ≡ k.rows
-  pub roots : roots_in d ≡ k.roots
-  pub width : c.width ≡ k.width
-  pub clauses : clauses_of c.clauses ≡ k.clauses
-  pub wide : g.width ≡ k.width
-  pub groups : groups_of g ≡ k.groups
 
 module _ (d : Diagrams) (c : Clauses) (g : Groups) (k : Catalogue) (h : Held d c g k) where
   -- the node of a root, as the catalogue has it

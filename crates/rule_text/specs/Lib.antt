@@ -3,3 +3,4 @@ pub mod RuleLines
 pub mod Kinds
 pub mod View
 pub mod Lending
+pub mod Frames

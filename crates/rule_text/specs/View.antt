@@ -1,9 +1,11 @@
 -- The catalogue that the tables are.
-use Rattle.std.specs.Prelude.{ℕ, List, take}
+use Rattle.std.specs.Prelude.{◌≡◌, ℕ, List, take}
 use Rattle.diagrams.specs.declared.row.Row.{Row}
 use Rattle.diagrams.specs.declared.table.Diagrams.{Diagrams}
 use Rattle.diagrams.specs.Filled.{root_nodes}
+use Rattle.clauses.specs.declared.table.Clauses.{Clauses}
 use Rattle.clauses.specs.Table.{rules_of as clauses_of}
+use Rattle.groups.specs.declared.table.Groups.{Groups}
 use Rattle.groups.specs.View.{rules_of as groups_of}
 use Rattle.rule_text.specs.declared.tables.Tables.{Tables}
 use Rattle.rule_text.specs.Kinds.{stage_of}
@@ -29,3 +31,13 @@ catalogue_of t =
       clauses = clauses_of t.clauses.clauses;
       groups = groups_of t.groups;
     }
+
+-- three tables hold the rules and the widths of the catalogue; its stage and its first option stand in none of them
+pub record Held (d : Diagrams) (c : Clauses) (g : Groups) (k : Catalogue) : Type 0 where
+  pub size : d.width ≡ k.size
+  pub rows : rows_in d ≡ k.rows
+  pub roots : roots_in d ≡ k.roots
+  pub width : c.width ≡ k.width
+  pub clauses : clauses_of c.clauses ≡ k.clauses
+  pub wide : g.width ≡ k.width
+  pub groups : groups_of g ≡ k.groups

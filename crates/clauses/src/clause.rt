@@ -41,10 +41,12 @@ impl<const N: usize> Clause<N> {
         requires inside { within 128 literals.now ≡ true }
         ensures { numbers result ≡ literals.now }
     {
+        // no test of each place and length: so the loop is done several literals at a time
         let mut clause = Clause::empty();
-        for literal in literals {
-            clause.push(Literal::new(*literal as u8));
+        for (i, literal) in literals.iter().enumerate() {
+            clause.literals[i] = Literal::new(*literal as u8);
         }
+        clause.len = literals.len() as u8;
         clause
     }
 

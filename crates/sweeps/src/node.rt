@@ -25,6 +25,10 @@ impl<'a, S: Semiring + Copy> Weights<'a, S> {
         requires { (to ≤ length self.now.low.now) × ((to ≤ length self.now.high.now) × (from ≤ to)) }
         ensures { result ≡ fold (λ value p. S.operations.times (S.operations.plus p.0 p.1) value) start (zip (reverse (slice_range self.now.low.now from to)) (reverse (slice_range self.now.high.now from to))) }
     {
+        // an arrow that jumps over nothing cuts no slice
+        if from == to {
+            return start;
+        }
         let lows = self.low[from..to].iter().rev();
         let highs = self.high[from..to].iter().rev();
         lows.zip(highs)

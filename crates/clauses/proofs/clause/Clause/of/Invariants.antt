@@ -1,6 +1,6 @@
-use Rattle.std.proofs.Common.{◌≡◌, take}
+use Rattle.std.proofs.Common.{◌≡◌, length, take}
 use Rattle.clauses.specs.Literals.{numbers}
 use Rattle.clauses.proofs.clause.Clause.of.Given as goal
 
-abbrev pub invariant-loop-literal : goal.invariant-loop-literal
-invariant-loop-literal g l = numbers l.clause ≡ take l.literal-index l.literals
+abbrev pub invariant-loop-i : goal.invariant-loop-i
+invariant-loop-i g l = (length l.clause-inside.literals ≡ g.row.N) × (numbers (take l.i l.clause-inside.literals) ≡ take l.i l.literals)

@@ -4,7 +4,7 @@ ghost use Rattle.groups.specs.Group.{distinct};
 
 // At least `lo` and at most `hi` of the first `len` options are to be taken; no option stands twice.
 // An array and a length, and no `ArrayVec`: a group is `Copy`, and an `ArrayVec` is not.
-// What an `ArrayVec` says by itself stands in ghost fields: there are `len` options, and behind them is nothing, so that a group is its rule.
+// What an `ArrayVec` says by itself stands in ghost fields: there are `len` options, and behind them stand zeros alone, so that a group is its rule.
 #[derive(Clone, Copy, Drop)]
 pub struct Group {
     pub(crate) lo: u8,
